@@ -1,0 +1,3 @@
+pub mod Tests
+pub mod Text
+pub mod Digits
