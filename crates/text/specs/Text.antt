@@ -6,7 +6,6 @@ use Prim.Native.Char.{Char, code}
 use Prim.Native.String.{String, [] as nil, _∷_ as _▹_}
 use lib.ListN.{length}
 use lib.Seq.{sets}
-
 pub mod Laws
 
 -- the bytes of an ASCII text

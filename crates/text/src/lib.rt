@@ -48,7 +48,11 @@ fn digit_of(n: u64) -> u8
     requires { ⌜ n < 16 ⌝ }
     ensures { λ r. ⌜ r ≡ digit n ⌝ }
 {
-    if n < 10 { b'0' + n as u8 } else { b'a' - 10 + n as u8 }
+    if n < 10 {
+        b'0' + n as u8
+    } else {
+        b'a' - 10 + n as u8
+    }
 }
 
 fn put_digits(out: &mut [u8], at: usize, x: u64, base: u64) -> usize
@@ -78,7 +82,11 @@ pub fn put_decimal(out: &mut [u8], at: usize, x: u64) -> usize
 pub fn magnitude(x: i64) -> u64
     ensures { λ r. ⌜ r ≡ natAbs x ⌝ }
 {
-    if x < 0 { (-(x + 1)) as u64 + 1 } else { x as u64 }
+    if x < 0 {
+        (-(x + 1)) as u64 + 1
+    } else {
+        x as u64
+    }
 }
 
 pub fn put_signed(out: &mut [u8], at: usize, x: i64) -> usize
