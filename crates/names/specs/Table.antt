@@ -17,9 +17,9 @@ lengthAt t i = cond (within t i) (getD t (10 * i) 0 - 48) 0
 -- the name at entry i; none past the end
 unfoldable pub nameAt : List ℕ → ℕ → List ℕ
 nameAt t i = take (lengthAt t i) (
-  getD t (10 * i + 1) 0 ∷ getD t (10 * i + 2) 0 ∷ getD t (10 * i + 3) 0 ∷ getD t (10 * i + 4) 0
-  ∷ getD t (10 * i + 5) 0 ∷ getD t (10 * i + 6) 0 ∷ getD t (10 * i + 7) 0 ∷ getD t (10 * i + 8) 0 ∷ []
-)
+    getD t (10 * i + 1) 0 ∷ getD t (10 * i + 2) 0 ∷ getD t (10 * i + 3) 0 ∷ getD t (10 * i + 4) 0
+    ∷ getD t (10 * i + 5) 0 ∷ getD t (10 * i + 6) 0 ∷ getD t (10 * i + 7) 0 ∷ getD t (10 * i + 8) 0 ∷ []
+    )
 
 pub record Entry (t : List ℕ) (i : ℕ) (r : RegisterName) : Type 0 where
   pub text : take (r .len) (r .bytes) ≡ nameAt t i

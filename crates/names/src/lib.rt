@@ -1,8 +1,8 @@
 // Register names by register number, one table for each CPU family, as Breakpad's records write them.
 // An entry has ten bytes: the name's length as a digit, the name in eight bytes, and a space. Length 0 is no name.
 use text::put_byte;
-use text::put_decimal;
 use text::put_bytes;
+use text::put_decimal;
 ghost use mathlib.Core.Path.{_≡_};
 ghost use mathlib.Core.List.{[], _∷_};
 ghost use Prim.Native.Nat.{_-_, _≤_};

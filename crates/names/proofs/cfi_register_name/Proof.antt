@@ -131,7 +131,7 @@ returns-9 c = rw (c .before .before .match .keys9) (table-holds arm64 tt (c .bef
 -- src/lib.rt:144:1
 returns-10 : tie.Need-returns-10
 unfolding cfiName table
-returns-10 c = 
+returns-10 c =
     let f = c .before .args .family in
     let r = c .match .rest in
     simp (ne-eqb f 1 (r .0 .0 .0 .0 .0 .0 .0 .0 .1), ne-eqb f 2 (r .0 .0 .0 .0 .0 .0 .0 .1), ne-eqb f 3 (r .0 .0 .0 .0 .0 .0 .1), ne-eqb f 4 (r .0 .0 .0 .0 .0 .1), ne-eqb f 5 (r .0 .0 .0 .0 .1), ne-eqb f 6 (r .0 .0 .0 .1), ne-eqb f 7 (r .0 .0 .1), ne-eqb f 8 (r .0 .1), ne-eqb f 9 (r .1)) (record { text = refl; size = refl; fits = omega arith })

@@ -24,7 +24,7 @@ add-if1 c = search needs
 -- src/lib.rt:127:9
 returns : tie.Need-returns
 unfolding lengthAt nameAt
-returns c = 
+returns c =
     let e : leb (10 * c .before .before .args .register + 10) (length (c .before .before .args .table .now)) ≡ false = lt-leb (10 * c .before .before .args .register + 10) (length (c .before .before .args .table .now)) (omega arith) in
     record { text = rw e; size = rw e }
 
@@ -103,7 +103,7 @@ shared-slice-read-t32 c = search needs
 -- src/lib.rt:122:1
 returns-2 : tie.Need-returns-2
 unfolding lengthAt nameAt
-returns-2 c = 
+returns-2 c =
     let e : leb (10 * c .before .before .before .before .before .before .before .before .before .before .before .before .args .register + 10) (length (c .before .before .before .before .before .before .before .before .before .before .before .before .args .table .now)) ≡ true = le-leb (10 * c .before .before .before .before .before .before .before .before .before .before .before .before .args .register + 10) (length (c .before .before .before .before .before .before .before .before .before .before .before .before .args .table .now)) (omega arith) in
     record { text = rw (e, c .before .before .before .before .before .before .before .before .digit-value .ensures); size = rw (e, c .before .before .before .before .before .before .before .before .digit-value .ensures) }
 

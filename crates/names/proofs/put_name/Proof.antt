@@ -11,13 +11,13 @@ use Rattle.text.proofs.put_bytes.Reads as put-bytes-reads
 
 -- src/lib.rt:175:24
 array-share-prefix-bytes : tie.Need-array-share-prefix-bytes
-array-share-prefix-bytes c = 
+array-share-prefix-bytes c =
     let long : length (c .before .before .before .args .name .bytes) ≡ 8 = search needs in
     omega arith
 
 -- src/lib.rt:175:24
 slice-aggregate-put-bytes : tie.Need-slice-aggregate-put-bytes
-slice-aggregate-put-bytes c = 
+slice-aggregate-put-bytes c =
     let long : length (c .before .before .before .before .args .name .bytes) ≡ 8 = search needs in
     sym (length-take-le (c .before .before .before .before .args .name .len) (c .before .before .before .before .args .name .bytes) (omega arith))
 

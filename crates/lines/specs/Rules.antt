@@ -1,0 +1,35 @@
+-- The code's rules and the rules of a line that they stand for.
+use Prim.Native.Nat.{ℕ}
+use mathlib.Core.List.{List}
+use Rattle.text.specs.Text.{ascii}
+use Rattle.names.specs.Names.{cfiName, peName, arm64Name}
+use Rattle.lines.specs.Lines as L
+use Rattle.lines.specs.declared.Reg.{Reg}
+use Rattle.lines.specs.declared.Reg.the-variants.{Sp, Pe, Cfi, Arm64}
+use Rattle.lines.specs.declared.Name.{Name}
+use Rattle.lines.specs.declared.Name.the-variants.{Cfa, Ra, Of}
+use Rattle.lines.specs.declared.Form.{Form}
+use Rattle.lines.specs.declared.Form.the-variants.{Register, RegisterPlus, AtRegisterPlus, CfaPlus, AtCfaPlus, AtCfaMinus}
+use Rattle.lines.specs.declared.Rule.{Rule}
+
+unfoldable pub regName : Reg → List ℕ
+regName Sp = ascii ".sp"
+regName (Pe r) = peName r
+regName (Cfi f r) = cfiName f r
+regName (Arm64 l r) = arm64Name l r
+
+unfoldable pub ruleName : Name → List ℕ
+ruleName Cfa = ascii ".cfa"
+ruleName Ra = ascii ".ra"
+ruleName (Of r) = regName r
+
+unfoldable pub formOf : Form → L.Form
+formOf (Register r) = L.register (regName r)
+formOf (RegisterPlus r n) = L.registerPlus (regName r) n
+formOf (AtRegisterPlus r n) = L.atRegisterPlus (regName r) n
+formOf (CfaPlus n) = L.cfaPlus n
+formOf (AtCfaPlus n) = L.atCfaPlus n
+formOf (AtCfaMinus n) = L.atCfaMinus n
+
+unfoldable pub ruleOf : Rule → L.Rule
+ruleOf r = L.rule (ruleName (r .name)) (formOf (r .form))
