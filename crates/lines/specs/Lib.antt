@@ -1,2 +1,5 @@
 pub mod Lines
 pub mod Rules
+pub mod Cut
+pub mod Read
+pub mod Worked

@@ -12,6 +12,8 @@ use Rattle.lines.specs.declared.Form.{Form}
 use Rattle.lines.specs.declared.Form.the-variants.{Register, RegisterPlus, AtRegisterPlus, CfaPlus, AtCfaPlus, AtCfaMinus}
 use Rattle.lines.specs.declared.Rule.{Rule}
 
+pub mod Laws
+
 unfoldable pub regName : Reg → List ℕ
 regName Sp = ascii ".sp"
 regName (Pe r) = peName r

@@ -1,0 +1,77 @@
+-- Every name of the tables, and so every rule of the code, is well formed: a computed test over each table.
+use Prim.Native.Nat.{ℕ, zero, suc}
+use mathlib.Core.Bool.{Bool, true, false, not, cond, _&&_}
+use mathlib.Core.List.{List, [], _∷_, _++_}
+use lib.ListN.{getD}
+use lib.Dec.{T, eqb}
+use Rattle.text.specs.Text.{ascii}
+use Rattle.text.specs.Tests.{all, all-append, eqw, and-l, and-r, both}
+use Rattle.text.specs.Digits.{digit, decimal}
+use Rattle.text.specs.Digits.Laws.{decimal-all}
+use Rattle.names.specs.Names.{i386, x86-64, arm, arm64, ppc, mips, pe-x64, table, cfiName, peName, letterOf, arm64Name}
+use Rattle.lines.specs.Lines.{Bytes, nameByte, nameOk, registerOk, formOk, ruleOk, cfa}
+use Rattle.lines.specs.Rules.{regName, ruleName, formOf, ruleOf}
+use Rattle.lines.specs.declared.Reg.{Reg}
+use Rattle.lines.specs.declared.Reg.the-variants.{Sp, Pe, Cfi, Arm64}
+use Rattle.lines.specs.declared.Name.{Name}
+use Rattle.lines.specs.declared.Name.the-variants.{Cfa, Ra, Of}
+use Rattle.lines.specs.declared.Form.{Form}
+use Rattle.lines.specs.declared.Form.the-variants.{Register, RegisterPlus, AtRegisterPlus, CfaPlus, AtCfaPlus, AtCfaMinus}
+use Rattle.lines.specs.declared.Rule.{Rule}
+
+all-getD : (p : Bytes → Bool) (ns : List Bytes) (r : ℕ) → T (all p ns) → T (p []) → T (p (getD ns r []))
+all-getD p [] r h k = k
+all-getD p (n ∷ ns) zero h k = and-l (p n) _ h
+all-getD p (n ∷ ns) (suc r) h k = all-getD p ns r (and-r (p n) _ h) k
+
+either : (t : Bool) (ns ms : List Bytes) → T (all registerOk ns) → T (all registerOk ms) → T (all registerOk (cond t ns ms))
+either true ns ms h k = h
+either false ns ms h k = k
+
+table-ok : (f : ℕ) → T (all registerOk (table f))
+unfolding table i386 x86-64 arm arm64 ppc mips
+table-ok f = either (eqb f 1) i386 _ tt (either (eqb f 2) x86-64 _ tt (either (eqb f 3) arm _ tt (either (eqb f 4) arm64 _ tt (either (eqb f 5) ppc _ tt
+    (either (eqb f 6) ppc _ tt (either (eqb f 7) mips _ tt (either (eqb f 8) mips _ tt (either (eqb f 9) arm64 [] tt tt))))))))
+
+pub cfi-ok : (f r : ℕ) → T (registerOk (cfiName f r))
+unfolding cfiName
+cfi-ok f r = all-getD registerOk (table f) r (table-ok f) tt
+
+pub pe-ok : (r : ℕ) → T (registerOk (peName r))
+unfolding peName pe-x64
+pe-ok r = all-getD registerOk pe-x64 r tt tt
+
+pub arm64-ok : (l r : ℕ) → T (registerOk (arm64Name l r))
+unfolding arm64Name letterOf digit
+arm64-ok l r = go (eqb l 0) (eqb l 1)
+  where
+    go : (s t : Bool) → T (registerOk (ascii "." ++ cond s (ascii "x") (cond t (ascii "d") (ascii "q")) ++ decimal r))
+    go true t = both (nameOk (decimal r)) _ (decimal-all nameByte r tt) tt
+    go false true = both (nameOk (decimal r)) _ (decimal-all nameByte r tt) tt
+    go false false = both (nameOk (decimal r)) _ (decimal-all nameByte r tt) tt
+
+pub reg-ok : (r : Reg) → T (registerOk (regName r))
+unfolding regName
+reg-ok Sp = tt
+reg-ok (Pe r) = pe-ok r
+reg-ok (Cfi f r) = cfi-ok f r
+reg-ok (Arm64 l r) = arm64-ok l r
+
+name-ok : (n : Name) → T (nameOk (ruleName n))
+unfolding ruleName
+name-ok Cfa = tt
+name-ok Ra = tt
+name-ok (Of r) = and-l (nameOk (regName r)) _ (reg-ok r)
+
+form-ok : (f : Form) → T (formOk (formOf f))
+unfolding formOf
+form-ok (Register r) = reg-ok r
+form-ok (RegisterPlus r n) = reg-ok r
+form-ok (AtRegisterPlus r n) = reg-ok r
+form-ok (CfaPlus n) = tt
+form-ok (AtCfaPlus n) = tt
+form-ok (AtCfaMinus n) = tt
+
+pub rule-ok : (r : Rule) → T (ruleOk (ruleOf r))
+unfolding ruleOf
+rule-ok r = both (nameOk (ruleName (r .name))) _ (name-ok (r .name)) (form-ok (r .form))
