@@ -9,7 +9,6 @@ use Rattle.text.specs.Digits.{readHex, readSigned}
 use Rattle.lines.specs.Lines.{Bytes, Form, register, registerPlus, atRegisterPlus, cfaPlus, atCfaPlus, atCfaMinus, Rule, rule, Line, init, later, win, cfa}
 use Rattle.lines.specs.Cut.{free, cut, after}
 use Rattle.lines.specs.declared.StackInfo.{StackInfo}
-
 pub mod Laws
 
 -- ---- a rule, by its words: 58 is ':'

@@ -11,7 +11,6 @@ use Rattle.lines.specs.declared.Name.the-variants.{Cfa, Ra, Of}
 use Rattle.lines.specs.declared.Form.{Form}
 use Rattle.lines.specs.declared.Form.the-variants.{Register, RegisterPlus, AtRegisterPlus, CfaPlus, AtCfaPlus, AtCfaMinus}
 use Rattle.lines.specs.declared.Rule.{Rule}
-
 pub mod Laws
 
 unfoldable pub regName : Reg → List ℕ

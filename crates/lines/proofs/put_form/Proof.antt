@@ -133,7 +133,7 @@ same-length-2 c = search needs
 -- src/lib.rt:90:1
 returns-2 : tie.Need-returns-2
 unfolding formText formOf
-returns-2 c = 
+returns-2 c =
     let f : SFits w64 (c .before .before .before .before .before .before .before .before .before .before .form2 .given .0 .1 .0) = search needs in
     rw (c .before .before .before .before .before .before .before .before .before .before .form2 .given .1) (c .before .before .before .before .before .before .before .put-reg2 .ensures ⨾ put-as (c .before .before .put-amount .ensures) (ap (λ (z : ℤ). amount z (ascii " +")) (toZ-ofZ f)))
 
@@ -144,7 +144,7 @@ same-length-3 c = search needs
 -- src/lib.rt:90:1
 returns-3 : tie.Need-returns-3
 unfolding formText formOf
-returns-3 c = 
+returns-3 c =
     let f : SFits w64 (c .before .before .before .before .before .before .before .before .before .before .form3 .given .0 .1 .0) = search needs in
     rw (c .before .before .before .before .before .before .before .before .before .before .form3 .given .1) (c .before .before .before .before .before .before .before .put-reg3 .ensures ⨾ put-as (c .before .before .put-amount2 .ensures) (ap (λ (z : ℤ). amount z (ascii " + ^")) (toZ-ofZ f)))
 
@@ -155,7 +155,7 @@ same-length-4 c = search needs
 -- src/lib.rt:90:1
 returns-4 : tie.Need-returns-4
 unfolding formText formOf
-returns-4 c = 
+returns-4 c =
     let f : SFits w64 (c .before .before .before .before .before .before .before .before .before .before .before .form4 .given .0 .0) = search needs in
     rw (c .before .before .before .before .before .before .before .before .before .before .before .form4 .given .1) (c .before .before .before .before .before .before .before .put-bytes .ensures ⨾ put-as (c .before .before .put-amount3 .ensures) (ap (λ (z : ℤ). amount z (ascii " +")) (toZ-ofZ f)))
 
@@ -166,7 +166,7 @@ same-length-5 c = search needs
 -- src/lib.rt:90:1
 returns-5 : tie.Need-returns-5
 unfolding formText formOf
-returns-5 c = 
+returns-5 c =
     let f : SFits w64 (c .before .before .before .before .before .before .before .before .before .before .before .form5 .given .0 .0) = search needs in
     rw (c .before .before .before .before .before .before .before .before .before .before .before .form5 .given .1) (c .before .before .before .before .before .before .before .put-bytes2 .ensures ⨾ put-as (c .before .before .put-amount4 .ensures) (ap (λ (z : ℤ). amount z (ascii " + ^")) (toZ-ofZ f)))
 
@@ -177,7 +177,7 @@ same-length-6 c = search needs
 -- src/lib.rt:90:1
 returns-6 : tie.Need-returns-6
 unfolding formText formOf
-returns-6 c = 
+returns-6 c =
     let f : SFits w64 (c .before .before .before .before .before .before .before .before .before .before .before .form6 .given .0 .0) = search needs in
     rw (c .before .before .before .before .before .before .before .before .before .before .before .form6 .given .1) (c .before .before .before .before .before .before .before .put-bytes3 .ensures ⨾ put-as (c .before .before .put-amount5 .ensures) (ap (λ (z : ℤ). amount z (ascii " - ^")) (toZ-ofZ f)))
 
