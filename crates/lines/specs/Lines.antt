@@ -9,6 +9,8 @@ use Rattle.text.specs.Tests.{all, eqw}
 use Rattle.text.specs.Digits.{hex, signed, Digits·open}
 use Rattle.lines.specs.declared.StackInfo.{StackInfo}
 
+pub mod Laws
+
 abbrev pub Bytes : Type 0
 Bytes = List ℕ
 

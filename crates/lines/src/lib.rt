@@ -5,6 +5,8 @@ use text::put_hex;
 use text::put_signed;
 ghost use mathlib.Core.Path.{_≡_};
 ghost use mathlib.Core.List.{_++_};
+ghost use Prim.Native.Nat.{_^_, _<_};
+ghost use lib.IntN.{subℕ};
 ghost use Rattle.text.specs.Text.{Put, ascii};
 ghost use Rattle.text.specs.Digits.{signed};
 ghost use Rattle.lines.specs.Lines.{amount, formText, ruleText, initText, laterText, field, flag, winText};
@@ -180,4 +182,12 @@ pub fn put_stack_info(out: &mut [u8], at: usize, info: StackInfo, program: bool)
     let p = put_field(out, p, info.locals_size);
     let p = put_field(out, p, info.max_stack_size);
     put_flag(out, p, program)
+}
+
+// a - b, as the number of a rule
+pub fn difference(a: u64, b: u64) -> i64
+    requires { ⌜ (a < 2 ^ 63) × (b < 2 ^ 63) ⌝ }
+    ensures { λ r. ⌜ r ≡ subℕ a b ⌝ }
+{
+    (a as i64) - (b as i64)
 }

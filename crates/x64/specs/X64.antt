@@ -1,0 +1,223 @@
+-- An x64 body (document 01, "x64 body"): its operations from the words, refusals 4 to 7, skipping, and its line as the operations are run.
+-- A body's words are ws; a word that is missing reads 0.
+use Prim.Native.Nat.{ℕ, zero, suc, min, _+_, _-_, _*_, _^_}
+use mathlib.Core.Bool.{Bool, true, false, cond, _&&_, _||_}
+use mathlib.Core.List.{List, [], _∷_, _++_}
+use lib.ListN.{length, getD}
+use lib.IntN.{ℤ, pos, negsuc, subℕ}
+use lib.Dec.{ltb, leb, eqb}
+use Rattle.text.specs.Text.{ascii}
+use Rattle.text.specs.Tests.{all}
+use Rattle.names.specs.Names.{peName}
+use Rattle.lines.specs.Lines.{Form, Rule, rule, registerPlus, atRegisterPlus, atCfaMinus, cfa, init, lineText}
+use Rattle.x64.specs.declared.Op.{Op}
+use Rattle.x64.specs.declared.Op.the-variants.{PushNonVolatile, Alloc, SaveRsp, SaveFp, SetFpRegister, PushMachineFrame, Other, Undecodable}
+use Rattle.x64.specs.declared.Judged.{Judged}
+use Rattle.x64.specs.declared.Judged.the-variants.{Refuse, Skip, Write}
+
+-- ---- operations from words
+
+abbrev pub word : List ℕ → ℕ → ℕ
+word ws i = getD ws i 0
+
+-- kind, register and value, in an info with frame register f and frame offset o
+unfoldable pub opOf : ℕ → ℕ → ℕ → ℕ → ℕ → Op
+opOf f o k r v =
+    cond (eqb k 1) (PushNonVolatile r) (cond (eqb k 2) (Alloc v) (cond (eqb k 3) (SaveRsp r v) (cond (eqb k 4) (SaveFp r v f o)
+    (cond (eqb k 5) (SetFpRegister f o) (cond (eqb k 6) (PushMachineFrame (eqb v 1)) (cond (eqb k 8) Undecodable Other))))))
+
+-- n operations in stored order, from word a on
+unfoldable pub stored : List ℕ → ℕ → ℕ → ℕ → ℕ → List Op
+stored ws f o a zero = []
+stored ws f o a (suc n) = opOf f o (word ws a) (word ws (a + 1)) (word ws (a + 2)) ∷ stored ws f o (a + 3) n
+
+-- the operations of m infos, each as stored: frame register, frame offset, operation count, operations
+unfoldable pub infos : List ℕ → ℕ → ℕ → List (List Op)
+infos ws zero a = []
+infos ws (suc m) a = stored ws (word ws a) (word ws (a + 1)) (a + 3) (word ws (a + 2)) ∷ infos ws m (a + 3 + 3 * word ws (a + 2))
+
+unfoldable pub backwards : List Op → List Op
+backwards [] = []
+backwards (o ∷ os) = backwards os ++ (o ∷ [])
+
+-- the order in which a chain runs: infos first to last, each backwards
+unfoldable pub inOrder : List (List Op) → List Op
+inOrder [] = []
+inOrder (os ∷ rest) = backwards os ++ inOrder rest
+
+abbrev pub infoCount : List ℕ → ℕ
+infoCount ws = word ws 3
+
+unfoldable pub chain : List ℕ → List Op
+chain ws = inOrder (infos ws (infoCount ws) 4)
+
+-- ---- what an operation adds to the total, uses and writes, where the total is S
+
+unfoldable pub growthOf : Op → ℕ
+growthOf (PushNonVolatile r) = 8
+growthOf (Alloc v) = v
+growthOf (SaveRsp r v) = 0
+growthOf (SaveFp r v f o) = 0
+growthOf (SetFpRegister f o) = 0
+growthOf (PushMachineFrame code) = cond code 48 40
+growthOf Other = 0
+growthOf Undecodable = 0
+
+unfoldable pub valueOf : Op → ℕ
+valueOf (PushNonVolatile r) = 0
+valueOf (Alloc v) = v
+valueOf (SaveRsp r v) = v
+valueOf (SaveFp r v f o) = v
+valueOf (SetFpRegister f o) = 0
+valueOf (PushMachineFrame code) = 0
+valueOf Other = 0
+valueOf Undecodable = 0
+
+unfoldable pub opRules : ℕ → Op → List Rule
+opRules S (PushNonVolatile r) = rule (peName r) (atCfaMinus (pos (S + 8))) ∷ []
+opRules S (Alloc v) = []
+opRules S (SaveRsp r v) = rule (peName r) (atCfaMinus (subℕ S v)) ∷ []
+opRules S (SaveFp r v f o) = rule (peName r) (atRegisterPlus (peName f) (subℕ v o)) ∷ []
+opRules S (SetFpRegister f o) = []
+opRules S (PushMachineFrame code) = rule (ascii "$rsp") (atCfaMinus (pos (S + 16))) ∷ rule (ascii ".ra") (atCfaMinus (pos (S + 40))) ∷ []
+opRules S Other = []
+opRules S Undecodable = []
+
+-- the CFA that an operation sets
+unfoldable pub opCfa : ℕ → Op → List Form
+opCfa S (PushNonVolatile r) = []
+opCfa S (Alloc v) = []
+opCfa S (SaveRsp r v) = []
+opCfa S (SaveFp r v f o) = []
+opCfa S (SetFpRegister f o) = registerPlus (peName f) (subℕ S o) ∷ []
+opCfa S (PushMachineFrame code) = []
+opCfa S Other = []
+opCfa S Undecodable = []
+
+unfoldable pub isMachine : Op → Bool
+isMachine (PushNonVolatile r) = false
+isMachine (Alloc v) = false
+isMachine (SaveRsp r v) = false
+isMachine (SaveFp r v f o) = false
+isMachine (SetFpRegister f o) = false
+isMachine (PushMachineFrame code) = true
+isMachine Other = false
+isMachine Undecodable = false
+
+unfoldable pub anyMachine : List Op → Bool
+anyMachine [] = false
+anyMachine (o ∷ os) = isMachine o || anyMachine os
+
+-- ---- the line, as the operations are run with the total S
+
+module _ {A : Type 0} where
+  unfoldable pub run : (ℕ → Op → List A) → ℕ → List Op → List A
+  run f S [] = []
+  run f S (o ∷ os) = f S o ++ run f (S + growthOf o) os
+
+-- the total after all
+unfoldable pub total : ℕ → List Op → ℕ
+total S [] = S
+total S (o ∷ os) = total (S + growthOf o) os
+
+-- from the frame register that was set (refusal 7: at most one), else from $rsp
+unfoldable pub cfaForm : List Form → ℕ → Form
+cfaForm [] S = registerPlus (ascii "$rsp") (pos S)
+cfaForm (f ∷ fs) S = f
+
+unfoldable pub raRules : Bool → List Rule
+raRules machine = cond machine [] (rule (ascii ".ra") (atCfaMinus (pos 8)) ∷ [])
+
+unfoldable pub ranRules : List Op → List Rule
+ranRules os = rule cfa (cfaForm (run opCfa 8 os) (total 8 os)) ∷ (run opRules 8 os ++ raRules (anyMachine os))
+
+unfoldable pub x64Text : List ℕ → List ℕ
+x64Text ws = lineText false (init (word ws 0) (word ws 1 - word ws 0) (ranRules (chain ws)))
+
+-- ---- refusal 4: ranges, and exactly the words that the counts demand
+
+-- the words that its kind uses keep their ranges
+unfoldable pub opFits : ℕ → ℕ → ℕ → Bool
+opFits k r v = cond (eqb k 1 || (eqb k 3 || eqb k 4)) (ltb r 16) (cond (eqb k 6) (leb v 1) (leb 1 k && leb k 8))
+
+unfoldable pub opsFit : List ℕ → ℕ → ℕ → Bool
+opsFit ws a zero = true
+opsFit ws a (suc n) = opFits (word ws a) (word ws (a + 1)) (word ws (a + 2)) && opsFit ws (a + 3) n
+
+unfoldable pub infoFits : List ℕ → ℕ → Bool
+infoFits ws a = (ltb (word ws a) 16 && (leb (word ws (a + 1)) 240 && leb (word ws (a + 2)) 255)) && opsFit ws (a + 3) (word ws (a + 2))
+
+-- m infos from word a on, and nothing behind them
+unfoldable pub infosFit : List ℕ → ℕ → ℕ → Bool
+infosFit ws zero a = eqb a (length ws)
+infosFit ws (suc m) a = infoFits ws a && infosFit ws m (a + 3 + 3 * word ws (a + 2))
+
+unfoldable pub x64Layout : List ℕ → Bool
+x64Layout ws = (leb 1 (infoCount ws) && leb (infoCount ws) 32) && infosFit ws (infoCount ws) 4
+
+-- ---- skipping
+
+unfoldable pub allZero : ℕ → ℕ → ℕ → Bool
+allZero a b c = eqb a 0 && (eqb b 0 && eqb c 0)
+
+-- an undecodable one, kind 8, among n operations from word a on; and among those of m infos
+unfoldable pub undecodableOps : List ℕ → ℕ → ℕ → Bool
+undecodableOps ws a zero = false
+undecodableOps ws a (suc n) = eqb (word ws a) 8 || undecodableOps ws (a + 3) n
+
+unfoldable pub undecodableInfos : List ℕ → ℕ → ℕ → Bool
+undecodableInfos ws zero a = false
+undecodableInfos ws (suc m) a = undecodableOps ws (a + 3) (word ws (a + 2)) || undecodableInfos ws m (a + 3 + 3 * word ws (a + 2))
+
+-- the three leading words zero, end below begin, or an undecodable operation within the first `limit` infos
+unfoldable pub x64Skipped : ℕ → List ℕ → Bool
+x64Skipped limit ws =
+    allZero (word ws 0) (word ws 1) (word ws 2) || (ltb (word ws 1) (word ws 0) || undecodableInfos ws (min limit (infoCount ws)) 4)
+
+-- ---- refusals 5, 6 and 7
+
+-- inside signed 32 bits
+unfoldable pub inside : ℤ → Bool
+inside (pos n) = ltb n (2 ^ 31)
+inside (negsuc n) = ltb n (2 ^ 31)
+
+-- the places that an operation prints
+unfoldable pub printed : ℕ → Op → List ℤ
+printed S (PushNonVolatile r) = pos (S + 8) ∷ []
+printed S (Alloc v) = []
+printed S (SaveRsp r v) = subℕ S v ∷ []
+printed S (SaveFp r v f o) = subℕ v o ∷ []
+printed S (SetFpRegister f o) = subℕ S o ∷ []
+printed S (PushMachineFrame code) = pos (S + 16) ∷ pos (S + 40) ∷ []
+printed S Other = []
+printed S Undecodable = []
+
+-- each value used is below 2^31, each total and each printed place inside signed 32 bits
+unfoldable pub inReach : ℕ → List Op → Bool
+inReach S [] = true
+inReach S (o ∷ os) = (ltb (valueOf o) (2 ^ 31) && (inside (pos (S + growthOf o)) && all inside (printed S o))) && inReach (S + growthOf o) os
+
+unfoldable pub isSet : Op → Bool
+isSet (PushNonVolatile r) = false
+isSet (Alloc v) = false
+isSet (SaveRsp r v) = false
+isSet (SaveFp r v f o) = false
+isSet (SetFpRegister f o) = true
+isSet (PushMachineFrame code) = false
+isSet Other = false
+isSet Undecodable = false
+
+-- how many operations set a frame register
+unfoldable pub setCount : List Op → ℕ
+setCount [] = 0
+setCount (o ∷ os) = cond (isSet o) 1 0 + setCount os
+
+unfoldable pub x64Reach : ℕ → List ℕ → ℕ
+x64Reach limit ws =
+    cond (ltb limit (infoCount ws)) 5 (cond (inReach 8 (chain ws)) (cond (ltb 1 (setCount (chain ws))) 7 0) 6)
+
+-- ---- one entry: 4, skipping, 5 to 7
+
+unfoldable pub x64Judged : ℕ → List ℕ → Judged
+x64Judged limit ws =
+    cond (x64Layout ws) (cond (x64Skipped limit ws) Skip (cond (eqb (x64Reach limit ws) 0) Write (Refuse (x64Reach limit ws)))) (Refuse 4)
