@@ -8,7 +8,6 @@ use Rattle.text.specs.Text.{ascii}
 use Rattle.text.specs.Tests.{all, eqw}
 use Rattle.text.specs.Digits.{hex, signed, Digits·open}
 use Rattle.lines.specs.declared.StackInfo.{StackInfo}
-
 pub mod Laws
 
 abbrev pub Bytes : Type 0

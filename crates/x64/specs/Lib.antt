@@ -1,4 +1,3 @@
 pub mod X64
 pub mod Index
 pub mod Scan
-pub mod Sense

@@ -73,13 +73,17 @@ valueOf (PushMachineFrame code) = 0
 valueOf Other = 0
 valueOf Undecodable = 0
 
+-- where the interrupt pushed RSP and RIP
+unfoldable pub machineRules : ℕ → List Rule
+machineRules S = rule (ascii "$rsp") (atCfaMinus (pos (S + 16))) ∷ rule (ascii ".ra") (atCfaMinus (pos (S + 40))) ∷ []
+
 unfoldable pub opRules : ℕ → Op → List Rule
 opRules S (PushNonVolatile r) = rule (peName r) (atCfaMinus (pos (S + 8))) ∷ []
 opRules S (Alloc v) = []
 opRules S (SaveRsp r v) = rule (peName r) (atCfaMinus (subℕ S v)) ∷ []
 opRules S (SaveFp r v f o) = rule (peName r) (atRegisterPlus (peName f) (subℕ v o)) ∷ []
 opRules S (SetFpRegister f o) = []
-opRules S (PushMachineFrame code) = rule (ascii "$rsp") (atCfaMinus (pos (S + 16))) ∷ rule (ascii ".ra") (atCfaMinus (pos (S + 40))) ∷ []
+opRules S (PushMachineFrame code) = machineRules S
 opRules S Other = []
 opRules S Undecodable = []
 

@@ -24,7 +24,7 @@ ghost use lib.Dec.{T};
 ghost use Rattle.text.specs.Text.{Put, ascii};
 ghost use Rattle.names.specs.Names.{peName};
 ghost use Rattle.lines.specs.Lines.{rule, cfa, registerPlus, atRegisterPlus, atCfaMinus, ruleText, rulesText};
-ghost use Rattle.x64.specs.X64.{chain, opOf, growthOf, valueOf, run, opRules, raRules, x64Text, opFits, opsFit, infoFits, x64Layout, allZero, undecodableOps, undecodableInfos, x64Skipped, x64Reach, x64Judged};
+ghost use Rattle.x64.specs.X64.{chain, opOf, growthOf, valueOf, run, machineRules, opRules, raRules, x64Text, opFits, opsFit, infoFits, x64Layout, allZero, undecodableOps, undecodableInfos, x64Skipped, x64Reach, x64Judged};
 ghost use Rattle.x64.specs.Index.{opAt, opsRun, chainFrom, growths, reaches};
 ghost use Rattle.x64.specs.Scan.{scanStart, lose, framed, advance, scanStep, scanned, cfaOf};
 
@@ -172,7 +172,7 @@ fn put_cfa(out: &mut [u8], at: usize, register: u32, a: u64, b: u64) -> usize
 // RSP and RIP as the interrupt pushed them.
 fn put_machine(out: &mut [u8], at: usize, total: u64) -> usize
     requires { ⌜ total < 2 ^ 31 ⌝ }
-    ensures { λ r. ⌜ Put (now (out .entry)) at (rulesText (opRules total (Op.PushMachineFrame true))) (now (out .exit)) r ⌝ }
+    ensures { λ r. ⌜ Put (now (out .entry)) at (rulesText (machineRules total)) (now (out .exit)) r ⌝ }
 {
     let p = put_saved(out, at, RSP, total + 16, 0);
     put_return(out, p, total + 40)
@@ -364,7 +364,7 @@ fn scan_ops(body: &[u32], frame: u32, offset: u32, a: usize, n: usize, from: Sca
 
 fn scan_chain(body: &[u32]) -> Scan
     requires { ⌜ T (x64Layout (now body)) ⌝ }
-    ensures { λ r. ⌜ (r ≡ scanned scanStart (chain (now (body .entry)))) × (r .total < 2 ^ 31) ⌝ }
+    ensures { λ r. ⌜ r ≡ scanned scanStart (chain (now (body .entry))) ⌝ }
 {
     let mut s = Scan::start();
     let mut a: usize = 4;

@@ -1,0 +1,253 @@
+-- The forms that the code's loops walk, by index and in the order of the run, and that they are the definitions' forms.
+use mathlib.Core.Path.{_≡_, refl, sym, ap, _∙_}
+use Prim.Native.Nat.{ℕ, zero, suc, _+_, _-_, _*_, _^_, _≤_, _<_}
+use native.Mathlib.Omega.{arith}
+use native.Mathlib.Nat.{add-assoc}
+use mathlib.Core.Bool.{Bool, true, false, cond, _&&_, _||_}
+use mathlib.Core.List.{List, [], _∷_, _++_, append-assoc}
+use borrow.Author.Tests.{le-leb}
+use lib.ListN.{length}
+use lib.IntN.{ℤ, pos, negsuc, subℕ}
+use lib.Dec.{T, ltb, leb, eqb, ltb→lt, leb→le}
+use Rattle.text.specs.Tests.{below, and-l, and-r, both, all, all-append}
+use Rattle.x64.specs.declared.Op.{Op}
+use Rattle.x64.specs.declared.Op.the-variants.{PushNonVolatile, Alloc, SaveRsp, SaveFp, SetFpRegister, PushMachineFrame, Other, Undecodable}
+use Rattle.x64.specs.X64.{word, opOf, stored, infos, backwards, inOrder, infoCount, chain, growthOf, valueOf, run, total, opFits, opsFit, infoFits, infosFit, x64Layout, undecodableOps, undecodableInfos, inside, printed, inReach, setCount, x64Reach}
+
+-- ---- operations
+
+-- the operation whose words start at i
+unfoldable pub opAt : List ℕ → ℕ → ℕ → ℕ → Op
+opAt ws f o i = opOf f o (word ws i) (word ws (i + 1)) (word ws (i + 2))
+
+-- n operations stored from word a on, last to first
+unfoldable pub opsRun : List ℕ → ℕ → ℕ → ℕ → ℕ → List Op
+opsRun ws f o a zero = []
+opsRun ws f o a (suc n) = opAt ws f o (a + 3 * n) ∷ opsRun ws f o a n
+
+-- those of the info at word a
+abbrev pub infoOps : List ℕ → ℕ → List Op
+infoOps ws a = opsRun ws (word ws a) (word ws (a + 1)) (a + 3) (word ws (a + 2))
+
+-- where the info behind that at word a starts
+abbrev pub nextInfo : List ℕ → ℕ → ℕ
+nextInfo ws a = a + 3 + 3 * word ws (a + 2)
+
+-- m infos from word a on, first to last
+unfoldable pub chainFrom : List ℕ → ℕ → ℕ → List Op
+chainFrom ws zero a = []
+chainFrom ws (suc m) a = infoOps ws a ++ chainFrom ws m (nextInfo ws a)
+
+-- running backwards from word a: first what stands from a + 3 on
+last-first : (ws : List ℕ) (f o a n : ℕ) → opsRun ws f o a (suc n) ≡ opsRun ws f o (a + 3) n ++ (opAt ws f o a ∷ [])
+unfolding opsRun
+last-first ws f o a zero = let e : a + 3 * 0 ≡ a = omega arith in rw e
+last-first ws f o a (suc n) = let e : a + 3 * suc n ≡ a + 3 + 3 * n = omega arith in
+    rw e (ap (λ (l : List Op). opAt ws f o (a + 3 + 3 * n) ∷ l) (last-first ws f o a n))
+
+pub ops-stored : (ws : List ℕ) (f o a n : ℕ) → backwards (stored ws f o a n) ≡ opsRun ws f o a n
+unfolding stored backwards opsRun opAt
+ops-stored ws f o a zero = refl
+ops-stored ws f o a (suc n) =
+    ap (λ (l : List Op). l ++ (opAt ws f o a ∷ [])) (ops-stored ws f o (a + 3) n) ∙ sym (last-first ws f o a n)
+
+infos-run : (ws : List ℕ) (m a : ℕ) → inOrder (infos ws m a) ≡ chainFrom ws m a
+unfolding infos inOrder chainFrom
+infos-run ws zero a = refl
+infos-run ws (suc m) a = rw (ops-stored ws (word ws a) (word ws (a + 1)) (a + 3) (word ws (a + 2)), infos-run ws m (nextInfo ws a))
+
+pub chain-run : (ws : List ℕ) → chain ws ≡ chainFrom ws (infoCount ws) 4
+unfolding chain
+chain-run ws = infos-run ws (infoCount ws) 4
+
+-- ---- the total
+
+unfoldable pub growths : List Op → ℕ
+growths [] = 0
+growths (o ∷ os) = growthOf o + growths os
+
+pub total-sum : (S : ℕ) (os : List Op) → total S os ≡ S + growths os
+unfolding total growths
+total-sum S [] = omega arith
+total-sum S (o ∷ os) = rw (total-sum (S + growthOf o) os) (omega arith)
+
+-- the value that an operation uses and the total after it are below 2^31: what the code tests for refusal 6
+abbrev pub within : ℕ → Op → Bool
+within S o = ltb (valueOf o) (2 ^ 31) && ltb (S + growthOf o) (2 ^ 31)
+
+unfoldable pub reaches : ℕ → List Op → Bool
+reaches S [] = true
+reaches S (o ∷ os) = within S o && reaches (S + growthOf o) os
+
+-- ---- one step of each
+
+pub ops-step : (ws : List ℕ) (f o a n : ℕ) → 0 < n → opsRun ws f o a n ≡ opAt ws f o (a + 3 * (n - 1)) ∷ opsRun ws f o a (n - 1)
+unfolding opsRun
+ops-step ws f o a zero h = absurd (omega arith)
+ops-step ws f o a (suc n) h = let e : suc n - 1 ≡ n = omega arith in rw e
+
+pub chain-step : (ws : List ℕ) (m a : ℕ) → 0 < m → chainFrom ws m a ≡ infoOps ws a ++ chainFrom ws (m - 1) (nextInfo ws a)
+unfolding chainFrom
+chain-step ws zero a h = absurd (omega arith)
+chain-step ws (suc m) a h = let e : suc m - 1 ≡ m = omega arith in rw e
+
+pub infos-fit-step : (ws : List ℕ) (m a : ℕ) → 0 < m → infosFit ws m a ≡ (infoFits ws a && infosFit ws (m - 1) (nextInfo ws a))
+unfolding infosFit
+infos-fit-step ws zero a h = absurd (omega arith)
+infos-fit-step ws (suc m) a h = let e : suc m - 1 ≡ m = omega arith in rw e
+
+pub ops-fit-step : (ws : List ℕ) (a n : ℕ) → 0 < n
+    → opsFit ws a n ≡ (opFits (word ws a) (word ws (a + 1)) (word ws (a + 2)) && opsFit ws (a + 3) (n - 1))
+unfolding opsFit
+ops-fit-step ws a zero h = absurd (omega arith)
+ops-fit-step ws a (suc n) h = let e : suc n - 1 ≡ n = omega arith in rw e
+
+pub undecodable-ops-step : (ws : List ℕ) (a n : ℕ) → 0 < n → undecodableOps ws a n ≡ (eqb (word ws a) 8 || undecodableOps ws (a + 3) (n - 1))
+unfolding undecodableOps
+undecodable-ops-step ws a zero h = absurd (omega arith)
+undecodable-ops-step ws a (suc n) h = let e : suc n - 1 ≡ n = omega arith in rw e
+
+pub undecodable-step : (ws : List ℕ) (m a : ℕ) → 0 < m
+    → undecodableInfos ws m a ≡ (undecodableOps ws (a + 3) (word ws (a + 2)) || undecodableInfos ws (m - 1) (nextInfo ws a))
+unfolding undecodableInfos
+undecodable-step ws zero a h = absurd (omega arith)
+undecodable-step ws (suc m) a h = let e : suc m - 1 ≡ m = omega arith in rw e
+
+-- a row of tests, one after the other
+pub and-no : (a b : Bool) → a ≡ false → false ≡ (a && b)
+and-no a b h = rw h
+
+pub and-yes : (a b : Bool) → a ≡ true → b ≡ (a && b)
+and-yes a b h = rw h
+
+pub or-yes : (a b : Bool) → a ≡ true → true ≡ (a || b)
+or-yes a b h = rw h
+
+pub or-no : (a b : Bool) → a ≡ false → b ≡ (a || b)
+or-no a b h = rw h
+
+-- ---- bounds that the layout gives
+
+pub count-small : (ws : List ℕ) (a : ℕ) → T (infoFits ws a) → word ws (a + 2) ≤ 255
+unfolding infoFits
+count-small ws a h = leb→le (word ws (a + 2)) 255 (search (and-l, and-r))
+
+-- an info has at most 768 words
+pub info-bound : (ws : List ℕ) (a m : ℕ) → T (infoFits ws a) → 0 < m → a + 768 * m ≤ 24580 → nextInfo ws a + 768 * (m - 1) ≤ 24580
+info-bound ws a m h k b = omega (arith, count-small ws a h)
+
+pub layout-is : (ws : List ℕ) → 1 ≤ infoCount ws → infoCount ws ≤ 32 → infosFit ws (infoCount ws) 4 ≡ x64Layout ws
+unfolding x64Layout
+layout-is ws h k = rw (le-leb 1 (infoCount ws) h, le-leb (infoCount ws) 32 k)
+
+pub layout-infos : (ws : List ℕ) → T (x64Layout ws) → T (infosFit ws (infoCount ws) 4)
+unfolding x64Layout
+layout-infos ws h = and-r (leb 1 (infoCount ws) && leb (infoCount ws) 32) _ h
+
+pub layout-few : (ws : List ℕ) → T (x64Layout ws) → infoCount ws ≤ 32
+unfolding x64Layout
+layout-few ws h = leb→le (infoCount ws) 32 (search (and-l, and-r))
+
+-- ---- of two rows, one after the other
+
+pub run-append : {A : Type 0} (f : ℕ → Op → List A) (S : ℕ) (xs ys : List Op) → run f S (xs ++ ys) ≡ run f S xs ++ run f (S + growths xs) ys
+unfolding run growths
+run-append f S [] ys = let e : S + 0 ≡ S = omega arith in rw e
+run-append f S (x ∷ xs) ys = rw (run-append f (S + growthOf x) xs ys, append-assoc (f S x) (run f (S + growthOf x) xs) _, add-assoc S (growthOf x) (growths xs))
+
+pub reaches-append : (S : ℕ) (xs ys : List Op) → T (reaches S (xs ++ ys)) → T (reaches S xs) × T (reaches (S + growths xs) ys)
+unfolding reaches growths
+reaches-append S [] ys h = let e : S + 0 ≡ S = omega arith in (tt, rw e h)
+reaches-append S (x ∷ xs) ys h =
+    let r = reaches-append (S + growthOf x) xs ys (and-r (within S x) _ h) in
+    (both (within S x) _ (and-l (within S x) _ h) (r .0), rw (← add-assoc S (growthOf x) (growths xs)) (r .1))
+
+-- a total that is in reach stays below 2^31
+pub reaches-small : (S : ℕ) (os : List Op) → S < 2 ^ 31 → T (reaches S os) → S + growths os < 2 ^ 31
+unfolding reaches growths
+reaches-small S [] k h = omega arith
+reaches-small S (o ∷ os) k h =
+    let w : T (within S o) = and-l (within S o) _ h in
+    let l : S + growthOf o < 2 ^ 31 = ltb→lt (S + growthOf o) (2 ^ 31) (and-r (ltb (valueOf o) (2 ^ 31)) _ w) in
+    omega (arith, reaches-small (S + growthOf o) os l (and-r (within S o) _ h))
+
+-- ---- refusal 6: the two tests of the code decide what document 01 asks of every printed place, where the layout holds
+
+-- the frame offset that an operation holds keeps its range
+unfoldable offsetOk : Op → Bool
+offsetOk (PushNonVolatile r) = true
+offsetOk (Alloc v) = true
+offsetOk (SaveRsp r v) = true
+offsetOk (SaveFp r v f o) = leb o 240
+offsetOk (SetFpRegister f o) = leb o 240
+offsetOk (PushMachineFrame code) = true
+offsetOk Other = true
+offsetOk Undecodable = true
+
+difference-inside : (a b : ℕ) → a < 2 ^ 31 → b < 2 ^ 31 → inside (subℕ a b) ≡ true
+unfolding inside
+difference-inside a b h k = go (ltb a b)
+  where
+    go : (t : Bool) → inside (cond t (negsuc (b - suc a)) (pos (a - b))) ≡ true
+    go true = below (b - suc a) (2 ^ 31) (omega arith)
+    go false = below (a - b) (2 ^ 31) (omega arith)
+
+places-inside : (S : ℕ) (o : Op) → S < 2 ^ 31 → T (offsetOk o) → valueOf o < 2 ^ 31 → S + growthOf o < 2 ^ 31 → all inside (printed S o) ≡ true
+unfolding printed valueOf growthOf offsetOk inside
+places-inside S (PushNonVolatile r) h w v g = rw (below (S + 8) (2 ^ 31) g)
+places-inside S (Alloc n) h w v g = refl
+places-inside S (SaveRsp r n) h w v g = rw (difference-inside S n h v)
+places-inside S (SaveFp r n f o) h w v g = let k : o ≤ 240 = leb→le o 240 w in rw (difference-inside n o v (omega arith))
+places-inside S (SetFpRegister f o) h w v g = let k : o ≤ 240 = leb→le o 240 w in rw (difference-inside S o h (omega arith))
+places-inside S (PushMachineFrame true) h w v g = rw (below (S + 16) (2 ^ 31) (omega arith), below (S + 40) (2 ^ 31) (omega arith))
+places-inside S (PushMachineFrame false) h w v g = rw (below (S + 16) (2 ^ 31) (omega arith), below (S + 40) (2 ^ 31) (omega arith))
+places-inside S Other h w v g = refl
+places-inside S Undecodable h w v g = refl
+
+reach-is : (S : ℕ) (os : List Op) → S < 2 ^ 31 → T (all offsetOk os) → reaches S os ≡ inReach S os
+unfolding reaches inReach inside
+reach-is S [] h w = refl
+reach-is S (o ∷ os) h w = go (ltb (valueOf o) (2 ^ 31)) (ltb (S + growthOf o) (2 ^ 31)) (ltb→lt (valueOf o) (2 ^ 31)) (ltb→lt (S + growthOf o) (2 ^ 31))
+    (λ k. reach-is (S + growthOf o) os k (and-r (offsetOk o) _ w))
+  where
+    go : (a b : Bool) → (T a → valueOf o < 2 ^ 31) → (T b → S + growthOf o < 2 ^ 31) → (S + growthOf o < 2 ^ 31 → reaches (S + growthOf o) os ≡ inReach (S + growthOf o) os)
+        → ((a && b) && reaches (S + growthOf o) os) ≡ ((a && (b && all inside (printed S o))) && inReach (S + growthOf o) os)
+    go true true p q r = rw (places-inside S o h (and-l (offsetOk o) _ w) (p tt) (q tt)) (r (q tt))
+    go true false p q r = refl
+    go false b p q r = refl
+
+either : (t : Bool) (x y : Op) → T (offsetOk x) → T (offsetOk y) → T (offsetOk (cond t x y))
+either true x y h k = h
+either false x y h k = k
+
+of-ok : (f o k r v : ℕ) → T (leb o 240) → T (offsetOk (opOf f o k r v))
+unfolding opOf offsetOk
+of-ok f o k r v h =
+    either (eqb k 1) (PushNonVolatile r) _ tt (either (eqb k 2) (Alloc v) _ tt (either (eqb k 3) (SaveRsp r v) _ tt (either (eqb k 4) (SaveFp r v f o) _ h
+    (either (eqb k 5) (SetFpRegister f o) _ h (either (eqb k 6) (PushMachineFrame (eqb v 1)) _ tt (either (eqb k 8) Undecodable Other tt tt))))))
+
+ops-ok : (ws : List ℕ) (f o a n : ℕ) → T (leb o 240) → T (all offsetOk (opsRun ws f o a n))
+unfolding opsRun opAt
+ops-ok ws f o a zero h = tt
+ops-ok ws f o a (suc n) h = both (offsetOk (opAt ws f o (a + 3 * n))) _ (of-ok f o _ _ _ h) (ops-ok ws f o a n h)
+
+infos-ok : (ws : List ℕ) (m a : ℕ) → T (infosFit ws m a) → T (all offsetOk (chainFrom ws m a))
+unfolding infosFit infoFits chainFrom
+infos-ok ws zero a h = tt
+infos-ok ws (suc m) a h =
+    all-append offsetOk (infoOps ws a) _
+    (ops-ok ws (word ws a) (word ws (a + 1)) (a + 3) (word ws (a + 2)) (search (and-l, and-r)))
+    (infos-ok ws m (nextInfo ws a) (and-r (infoFits ws a) _ h))
+
+pub chain-reach : (ws : List ℕ) → T (x64Layout ws) → reaches 8 (chain ws) ≡ inReach 8 (chain ws)
+chain-reach ws h = rw (chain-run ws) (reach-is 8 (chainFrom ws (infoCount ws) 4) (omega arith) (infos-ok ws (infoCount ws) 4 (layout-infos ws h)))
+
+-- what refusal number 0 says
+pub reach-none : (limit : ℕ) (ws : List ℕ) → T (x64Layout ws) → x64Reach limit ws ≡ 0 → T (reaches 8 (chain ws))
+unfolding x64Reach
+reach-none limit ws l h = rw (chain-reach ws l) (go (ltb limit (infoCount ws)) (inReach 8 (chain ws)) (ltb 1 (setCount (chain ws))) h)
+  where
+    go : (a b d : Bool) → _≡_ {A = ℕ} (cond a 5 (cond b (cond d 7 0) 6)) 0 → T b
+    go true b d k = absurd (omega arith)
+    go false true d k = tt
+    go false false d k = absurd (omega arith)
