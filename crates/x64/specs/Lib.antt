@@ -1,3 +1,4 @@
 pub mod X64
 pub mod Index
 pub mod Scan
+pub mod Sense
