@@ -5,14 +5,16 @@ use native.Mathlib.Omega.{arith}
 use native.Mathlib.Nat.{add-assoc}
 use mathlib.Core.Bool.{Bool, true, false, cond, _&&_, _||_}
 use mathlib.Core.List.{List, [], _∷_, _++_, append-assoc}
-use borrow.Author.Tests.{le-leb}
+use borrow.Author.Tests.{le-leb, eqb-true}
 use lib.ListN.{length}
 use lib.IntN.{ℤ, pos, negsuc, subℕ}
 use lib.Dec.{T, ltb, leb, eqb, ltb→lt, leb→le}
 use Rattle.text.specs.Tests.{below, and-l, and-r, both, all, all-append}
+use Rattle.entry.specs.declared.Judged.{Judged}
+use Rattle.entry.specs.declared.Judged.the-variants.{Refuse, Skip, Write}
 use Rattle.x64.specs.declared.Op.{Op}
 use Rattle.x64.specs.declared.Op.the-variants.{PushNonVolatile, Alloc, SaveRsp, SaveFp, SetFpRegister, PushMachineFrame, Other, Undecodable}
-use Rattle.x64.specs.X64.{word, opOf, stored, infos, backwards, inOrder, infoCount, chain, growthOf, valueOf, run, total, opFits, opsFit, infoFits, infosFit, x64Layout, undecodableOps, undecodableInfos, inside, printed, inReach, setCount, x64Reach}
+use Rattle.x64.specs.X64.{word, opOf, stored, infos, backwards, inOrder, infoCount, chain, growthOf, valueOf, run, total, opFits, opsFit, infoFits, infosFit, x64Layout, undecodableOps, undecodableInfos, inside, printed, inReach, setCount, x64Reach, x64Skipped, x64Judged}
 
 -- ---- operations
 
@@ -251,3 +253,15 @@ reach-none limit ws l h = rw (chain-reach ws l) (go (ltb limit (infoCount ws)) (
     go true b d k = absurd (omega arith)
     go false true d k = tt
     go false false d k = absurd (omega arith)
+
+-- an entry that is written keeps the layout and is in reach
+pub written : (limit : ℕ) (ws : List ℕ) → x64Judged limit ws ≡ Write → T (x64Layout ws) × T (reaches 8 (chain ws))
+unfolding x64Judged
+written limit ws h = go (x64Layout ws) (x64Skipped limit ws) (eqb (x64Reach limit ws) 0) refl refl h
+  where
+    go : (a b c : Bool) → x64Layout ws ≡ a → eqb (x64Reach limit ws) 0 ≡ c → cond a (cond b Skip (cond c Write (Refuse (x64Reach limit ws)))) (Refuse 4) ≡ Write
+        → T (x64Layout ws) × T (reaches 8 (chain ws))
+    go true false true p q k = (rw p tt, reach-none limit ws (rw p tt) (eqb-true (x64Reach limit ws) 0 q))
+    go true false false p q k = let z : _≡_ {A = ℕ} 0 1 = cc in absurd (omega arith)
+    go true true c p q k = let z : _≡_ {A = ℕ} 0 1 = cc in absurd (omega arith)
+    go false b c p q k = let z : _≡_ {A = ℕ} 0 1 = cc in absurd (omega arith)

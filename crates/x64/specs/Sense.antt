@@ -16,9 +16,13 @@ use Rattle.text.specs.Tests.{is-true, all, all-append, and-l, and-r, both}
 use Rattle.names.specs.Names.{peName}
 use Rattle.lines.specs.Lines.{Form, registerPlus, atRegisterPlus, atCfaMinus, Rule, rule, Line, init, cfa, lineText, render, nameOk, registerOk, formOk, ruleOk, lineOk}
 use Rattle.lines.specs.Rules.Laws.{pe-ok}
+use Rattle.entry.specs.declared.Judged.{Judged}
+use Rattle.entry.specs.declared.Judged.the-variants.{Refuse, Skip, Write}
+use Rattle.entry.specs.declared.Last.{Last}
+use Rattle.entry.specs.Entry.{Entry, comesTo, ifWritten}
 use Rattle.x64.specs.declared.Op.{Op}
 use Rattle.x64.specs.declared.Op.the-variants.{PushNonVolatile, Alloc, SaveRsp, SaveFp, SetFpRegister, PushMachineFrame, Other, Undecodable}
-use Rattle.x64.specs.X64.{word, chain, growthOf, run, total, machineRules, opRules, opCfa, cfaForm, isMachine, anyMachine, raRules, ranRules, x64Text, isSet, setCount}
+use Rattle.x64.specs.X64.{word, chain, growthOf, run, total, machineRules, opRules, opCfa, cfaForm, isMachine, anyMachine, raRules, ranRules, x64Text, isSet, setCount, x64Judged, x64Entry}
 use Rattle.x64.specs.Index.{total-sum}
 
 -- 8 a push, an allocation's value, 40 a machine frame and 8 its error code
@@ -93,6 +97,10 @@ pub rules-ran : (os : List Op) → ranRules os ≡ x64Rules os
 unfolding ranRules x64Rules
 rules-ran os = rw (sums-run opCfa os, sums-run opRules os, sum-total 8 os)
 
+nothing : [] ≡ render false []
+unfolding render
+nothing = refl
+
 -- the text as it is run is the rendering of the line
 pub x64-text : (ws : List ℕ) → x64Text ws ≡ render false (x64Line ws ∷ [])
 unfolding x64Text x64Line render
@@ -148,6 +156,29 @@ x64-ok ws =
     last true = tt
     last false = tt
 
+-- ---- an entry's lines
+
+unfoldable pub x64Lines : ℕ → List ℕ → List Line
+x64Lines limit ws = ifWritten (x64Judged limit ws) (x64Line ws ∷ [])
+
+pub x64-entry-text : (limit : ℕ) (last : Last) (ws : List ℕ) → x64Entry limit last ws .text ≡ render false (x64Lines limit ws)
+unfolding x64Entry x64Lines
+x64-entry-text limit last ws = go (x64Judged limit ws)
+  where
+    go : (j : Judged) → comesTo j (x64Text ws) last last .text ≡ render false (ifWritten j (x64Line ws ∷ []))
+    go (Refuse n) = nothing
+    go Skip = nothing
+    go Write = x64-text ws
+
+pub x64-entry-ok : (limit : ℕ) (ws : List ℕ) → T (all lineOk (x64Lines limit ws))
+unfolding x64Lines
+x64-entry-ok limit ws = go (x64Judged limit ws)
+  where
+    go : (j : Judged) → T (all lineOk (ifWritten j (x64Line ws ∷ [])))
+    go (Refuse n) = tt
+    go Skip = tt
+    go Write = both (lineOk (x64Line ws)) true (x64-ok ws) tt
+
 -- ---- the law of the CFA
 
 unfoldable pub pushes : List Op → ℕ
@@ -195,7 +226,7 @@ no-set S (Undecodable ∷ os) h = no-set (S + growthOf Undecodable) os (omega ar
 -- over the whole chain.
 pub cfa-law : (ws : List ℕ) → setCount (chain ws) ≡ 0
     → x64Line ws ≡ init (word ws 0) (word ws 1 - word ws 0)
-      (rule cfa (registerPlus (ascii "$rsp") (pos (8 + (8 * pushes (chain ws) + allocations (chain ws) + 40 * machineFrames (chain ws) + 8 * errorCodes (chain ws)))))
-      ∷ (sums opRules (chain ws) ++ raRules (anyMachine (chain ws))))
+    (rule cfa (registerPlus (ascii "$rsp") (pos (8 + (8 * pushes (chain ws) + allocations (chain ws) + 40 * machineFrames (chain ws) + 8 * errorCodes (chain ws)))))
+    ∷ (sums opRules (chain ws) ++ raRules (anyMachine (chain ws))))
 unfolding x64Line x64Rules cfaForm
 cfa-law ws h = rw (sums-run opCfa (chain ws), no-set 8 (chain ws) h, sum-counts (chain ws))

@@ -10,10 +10,12 @@ use Rattle.text.specs.Text.{ascii}
 use Rattle.text.specs.Tests.{all}
 use Rattle.names.specs.Names.{peName}
 use Rattle.lines.specs.Lines.{Form, Rule, rule, registerPlus, atRegisterPlus, atCfaMinus, cfa, init, lineText}
+use Rattle.entry.specs.declared.Last.{Last}
+use Rattle.entry.specs.Entry.{Entry, comesTo}
 use Rattle.x64.specs.declared.Op.{Op}
 use Rattle.x64.specs.declared.Op.the-variants.{PushNonVolatile, Alloc, SaveRsp, SaveFp, SetFpRegister, PushMachineFrame, Other, Undecodable}
-use Rattle.x64.specs.declared.Judged.{Judged}
-use Rattle.x64.specs.declared.Judged.the-variants.{Refuse, Skip, Write}
+use Rattle.entry.specs.declared.Judged.{Judged}
+use Rattle.entry.specs.declared.Judged.the-variants.{Refuse, Skip, Write}
 
 -- ---- operations from words
 
@@ -225,3 +227,6 @@ x64Reach limit ws =
 unfoldable pub x64Judged : ℕ → List ℕ → Judged
 x64Judged limit ws =
     cond (x64Layout ws) (cond (x64Skipped limit ws) Skip (cond (eqb (x64Reach limit ws) 0) Write (Refuse (x64Reach limit ws)))) (Refuse 4)
+
+unfoldable pub x64Entry : ℕ → Last → List ℕ → Entry
+x64Entry limit last ws = comesTo (x64Judged limit ws) (x64Text ws) last last

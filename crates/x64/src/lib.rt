@@ -7,6 +7,9 @@
 //     CFA - S          the stack pointer where the next operation runs
 //
 // A chain of infos describes one function; document 01 runs the infos first to last, and the operations of each, stored last first, backwards.
+use entry::Judged;
+use entry::Last;
+use entry::Wrote;
 use lines::Form;
 use lines::Name;
 use lines::Reg;
@@ -23,8 +26,9 @@ ghost use lib.IntN.{subℕ, pos};
 ghost use lib.Dec.{T};
 ghost use Rattle.text.specs.Text.{Put, ascii};
 ghost use Rattle.names.specs.Names.{peName};
+ghost use Rattle.entry.specs.Entry.{Processed};
 ghost use Rattle.lines.specs.Lines.{rule, cfa, registerPlus, atRegisterPlus, atCfaMinus, ruleText, rulesText};
-ghost use Rattle.x64.specs.X64.{chain, opOf, growthOf, valueOf, run, machineRules, opRules, raRules, x64Text, opFits, opsFit, infoFits, x64Layout, allZero, undecodableOps, undecodableInfos, x64Skipped, x64Reach, x64Judged};
+ghost use Rattle.x64.specs.X64.{chain, opOf, growthOf, valueOf, run, machineRules, opRules, raRules, x64Text, opFits, opsFit, infoFits, x64Layout, allZero, undecodableOps, undecodableInfos, x64Skipped, x64Reach, x64Judged, x64Entry};
 ghost use Rattle.x64.specs.Index.{opAt, opsRun, chainFrom, growths, reaches};
 ghost use Rattle.x64.specs.Scan.{scanStart, lose, framed, advance, scanStep, scanned, cfaOf};
 
@@ -411,7 +415,7 @@ fn put_ra(out: &mut [u8], at: usize, machine: bool) -> usize
     put_return(out, at, 8)
 }
 
-pub fn put_entry(out: &mut [u8], at: usize, body: &[u32]) -> usize
+fn put_entry(out: &mut [u8], at: usize, body: &[u32]) -> usize
     requires { ⌜ T (x64Layout (now body)) × T (reaches 8 (chain (now body))) ⌝ }
     ensures { λ r. ⌜ Put (now (out .entry)) at (x64Text (now (body .entry))) (now (out .exit)) r ⌝ }
 {
@@ -599,14 +603,8 @@ fn skipped(body: &[u32], limit: u32) -> bool
 
 // ---- one entry
 
-pub enum Judged {
-    Refuse(u32),
-    Skip,
-    Write,
-}
-
 // What becomes of an entry: refused by 4 to 7, skipped, or written.
-pub fn judge(body: &[u32], limit: u32) -> Judged
+fn judge(body: &[u32], limit: u32) -> Judged
     ensures { λ r. ⌜ r ≡ x64Judged limit (now (body .entry)) ⌝ }
 {
     if !layout(body) {
@@ -620,4 +618,27 @@ pub fn judge(body: &[u32], limit: u32) -> Judged
         return Judged::Refuse(number);
     }
     Judged::Write
+}
+
+// One entry: judged, and put at `at` where it is written. It leaves to the next what was left to it.
+pub fn process_pe(out: &mut [u8], at: usize, body: &[u32], limit: u32, last: Last) -> Wrote
+    ensures { λ r. ⌜ Processed (x64Entry limit last (now (body .entry))) (now (out .entry)) at (now (out .exit)) r ⌝ }
+{
+    let judged = judge(body, limit);
+    match judged {
+        Judged::Refuse(number) => Wrote { number, at, last },
+        Judged::Skip => Wrote {
+            number: 0,
+            at,
+            last,
+        },
+        Judged::Write => {
+            let p = put_entry(out, at, body);
+            Wrote {
+                number: 0,
+                at: p,
+                last,
+            }
+        }
+    }
 }

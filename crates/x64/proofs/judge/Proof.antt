@@ -2,7 +2,7 @@ use mathlib.Core.Path.{_≡_, sym, ap, _∙_}
 use mathlib.Core.Bool.{true, false}
 use borrow.Author.Tests.{eq-eqb, ne-eqb, not-true, not-false}
 use Rattle.x64.specs.X64.{x64Layout, x64Skipped, x64Reach, x64Judged}
-use Rattle.x64.specs.declared.Judged.the-variants.{Refuse}
+use Rattle.entry.specs.declared.Judged.the-variants.{Refuse}
 use native.Mathlib.Omega.{arith}
 use borrow.Author.Needs.{needs}
 use Rattle.x64.proofs.judge.Statement.{statement}
@@ -24,34 +24,34 @@ returns c = rw (sym (c .before .layout .ensures) ∙ not-true (c .before .layout
 
 -- src/lib.rt:615:8
 skipped-requires : tie.Need-skipped-requires
-skipped-requires c κs = 
+skipped-requires c κs =
     let l : x64Layout (c .before .before .before .args .body .now) ≡ true = sym (c .before .layout .ensures) ∙ not-false (c .before .layout .result) (c .if1 .left) in
     rw l tt
 
 -- src/lib.rt:616:9
 returns-2 : tie.Need-returns-2
 unfolding x64Judged
-returns-2 c = 
+returns-2 c =
     let l : x64Layout (c .before .before .before .before .before .args .body .now) ≡ true = sym (c .before .before .before .layout .ensures) ∙ not-false (c .before .before .before .layout .result) (c .before .before .if1 .left) in
     rw (l, sym (c .before .skipped .ensures) ∙ c .if2 .taken)
 
 -- src/lib.rt:618:9
 reach-requires : tie.Need-reach-requires
-reach-requires c κs = 
+reach-requires c κs =
     let l : x64Layout (c .before .before .before .before .before .args .body .now) ≡ true = sym (c .before .before .before .layout .ensures) ∙ not-false (c .before .before .before .layout .result) (c .before .before .if1 .left) in
     rw l tt
 
 -- src/lib.rt:620:9
 returns-3 : tie.Need-returns-3
 unfolding x64Judged
-returns-3 c = 
+returns-3 c =
     let l : x64Layout (c .before .before .before .before .before .before .before .args .body .now) ≡ true = sym (c .before .before .before .before .before .layout .ensures) ∙ not-false (c .before .before .before .before .before .layout .result) (c .before .before .before .before .if1 .left) in
     rw (l, sym (c .before .before .before .skipped .ensures) ∙ c .before .before .if2 .left, ne-eqb (x64Reach (c .before .before .before .before .before .before .before .args .limit) (c .before .before .before .before .before .before .before .args .body .now)) 0 (λ e. c .if3 .taken (c .before .reach .ensures ∙ e))) (ap Refuse (c .before .reach .ensures))
 
 -- src/lib.rt:609:1
 returns-4 : tie.Need-returns-4
 unfolding x64Judged
-returns-4 c = 
+returns-4 c =
     let l : x64Layout (c .before .before .before .before .before .before .before .args .body .now) ≡ true = sym (c .before .before .before .before .before .layout .ensures) ∙ not-false (c .before .before .before .before .before .layout .result) (c .before .before .before .before .if1 .left) in
     rw (l, sym (c .before .before .before .skipped .ensures) ∙ c .before .before .if2 .left, eq-eqb (x64Reach (c .before .before .before .before .before .before .before .args .limit) (c .before .before .before .before .before .before .before .args .body .now)) 0 (sym (c .before .reach .ensures) ∙ c .if3 .left))
 

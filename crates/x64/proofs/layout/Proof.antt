@@ -67,13 +67,13 @@ add-a c = record { fits = omega arith }
 
 -- src/lib.rt:523:21
 mul-a : tie.Need-mul-a Inv-loop μ-loop
-mul-a c = 
+mul-a c =
     let t : infoFits (c .before .before .before .before .before .before .before .before .before .args .body .now) (c .before .before .before .before .loop .a) ≡ true = sym (c .before .before .info-fits .ensures) ∙ not-false (c .before .before .info-fits .result) (c .before .if3 .left) in
     record { fits = omega (arith, count-small (c .before .before .before .before .before .before .before .before .before .args .body .now) (c .before .before .before .before .loop .a) (rw t tt), c .word2 .ensures) }
 
 -- src/lib.rt:523:13
 add-a-2 : tie.Need-add-a-2 Inv-loop μ-loop
-add-a-2 c = 
+add-a-2 c =
     let t : infoFits (c .before .before .before .before .before .before .before .before .before .args .body .now) (c .before .before .before .before .loop .a) ≡ true = sym (c .before .before .info-fits .ensures) ∙ not-false (c .before .before .info-fits .result) (c .before .if3 .left) in
     record { fits = omega (arith, count-small (c .before .before .before .before .before .before .before .before .before .args .body .now) (c .before .before .before .before .loop .a) (rw t tt), c .word2 .ensures) }
 
@@ -87,7 +87,7 @@ loop-less c = search needs
 
 -- src/lib.rt:518:5
 loop-again : tie.Need-loop-again Inv-loop μ-loop
-loop-again c = 
+loop-again c =
     let t : infoFits (c .before .before .before .before .before .before .before .before .before .args .body .now) (c .before .before .before .before .loop .a) ≡ true = sym (c .before .before .info-fits .ensures) ∙ not-false (c .before .before .info-fits .result) (c .before .if3 .left) in
     rw (c .word2 .ensures) (
       info-bound (c .before .before .before .before .before .before .before .before .before .args .body .now) (c .before .before .before .before .loop .a) (c .before .before .before .before .loop .m) (rw t tt) (search needs) (c .before .before .before .before .loop .inv .0),

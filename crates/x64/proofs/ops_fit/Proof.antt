@@ -48,7 +48,7 @@ op-fits-requires c κs = search needs
 
 -- src/lib.rt:480:13
 returns : tie.Need-returns Inv-loop μ-loop
-returns c = 
+returns c =
     let l = c .before .before .before .before .before .before .loop in
     let ws = c .before .before .before .before .before .before .before .before .args .body .now in
     and-no (opFits (word ws (l .a)) (word ws (l .a + 1)) (word ws (l .a + 2))) _ (rw (c .before .before .before .before .word .ensures, c .before .before .before .word2 .ensures, c .before .before .word3 .ensures) at (sym (c .before .op-fits .ensures) ∙ not-true (c .before .op-fits .result) (c .if1 .taken)))
@@ -68,7 +68,7 @@ loop-less c = search needs
 
 -- src/lib.rt:475:5
 loop-again : tie.Need-loop-again Inv-loop μ-loop
-loop-again c = 
+loop-again c =
     let l = c .before .before .before .before .before .before .loop in
     let ws = c .before .before .before .before .before .before .before .before .args .body .now in (
       omega arith,

@@ -83,7 +83,7 @@ loop-less c = search needs
 
 -- src/lib.rt:241:5
 loop-again : tie.Need-loop-again Inv-loop μ-loop
-loop-again c = 
+loop-again c =
     rw (c .before .before .before .before .word4 .ensures) (chain-turn (c .before .before .before .before .before .before .before .before .loop .inv) (search needs)
     (rw (c .before .before .before .before .before .before .word2 .ensures, c .before .before .before .before .before .word3 .ensures, c .before .before .before .before .word4 .ensures) at (c .before .before .put-ops .ensures .0))
     (rw (c .before .before .before .before .before .before .word2 .ensures, c .before .before .before .before .before .word3 .ensures, c .before .before .before .before .word4 .ensures) at (c .before .before .put-ops .ensures .1)))

@@ -69,7 +69,7 @@ same-length c = search needs
 -- src/lib.rt:414:1
 returns : tie.Need-returns
 unfolding x64Text ranRules
-returns c = 
+returns c =
     let ws = c .before .before .before .before .before .before .before .before .before .before .before .before .before .before .before .before .before .before .before .before .before .before .before .before .before .before .args .body .now in
     let os = chain ws in
     let r = c .before .before .before .before .before .before .before .before .before .before .before .before .before .before .before .before .before .before .before .before .before .before .before .before .before .before .pre .1 in

@@ -31,7 +31,7 @@ same-length c = search needs
 -- src/lib.rt:138:1
 returns : tie.Need-returns
 unfolding ruleOf ruleName regName formOf
-returns c = 
+returns c =
     let f : SFits w64 (c .before .before .before .before .difference .result) = search needs in
     put-as (c .before .before .put-rule .ensures) (ap (λ (z : ℤ). ruleText (rule (peName (c .before .before .before .before .before .before .args .register)) (atRegisterPlus (peName (c .before .before .before .before .before .before .args .frame)) z))) (toZ-ofZ f ∙ c .before .before .before .before .difference .ensures))
 

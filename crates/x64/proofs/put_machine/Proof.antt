@@ -37,7 +37,7 @@ same-length c = search needs
 -- src/lib.rt:173:1
 returns : tie.Need-returns
 unfolding machineRules peName pe-x64
-returns c = 
+returns c =
     let s = c .before .before .before .before .before .before .before .before .before .args .total in
     put-two (rule (ascii "$rsp") (atCfaMinus (pos (s + 16)))) (rule (ascii ".ra") (atCfaMinus (pos (s + 40)))) (put-place (ascii "$rsp") (s + 16) (c .before .before .before .before .before .before .put-saved .ensures)) (c .before .before .put-return .ensures)
 

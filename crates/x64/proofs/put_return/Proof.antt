@@ -32,7 +32,7 @@ same-length c = search needs
 -- src/lib.rt:150:1
 returns : tie.Need-returns
 unfolding ruleOf ruleName formOf
-returns c = 
+returns c =
     let f : SFits w64 (c .before .before .before .before .difference .result) = search needs in
     put-as (c .before .before .put-rule .ensures) (ap (λ (z : ℤ). ruleText (rule (ascii ".ra") (atCfaMinus z))) (toZ-ofZ f ∙ c .before .before .before .before .difference .ensures ∙ sub-none (c .before .before .before .before .before .before .args .a)))
 

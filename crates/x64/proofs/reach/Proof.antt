@@ -30,7 +30,7 @@ scan-chain-requires c κs = search needs
 -- src/lib.rt:438:9
 returns-2 : tie.Need-returns-2
 unfolding x64Reach
-returns-2 c = 
+returns-2 c =
     let os = chain (c .before .before .before .before .before .args .body .now) in
     let e : inReach 8 os ≡ false = sym (chain-reach (c .before .before .before .before .before .args .body .now) (c .before .before .before .before .before .pre)) ∙ not-true (reaches 8 os) (sym (chain-lost os) ∙ sym (ap (λ x. x .lost) (c .before .scan-chain .ensures)) ∙ c .if2 .taken) in
     rw (le-ltb (c .before .before .before .before .before .args .limit) (infoCount (c .before .before .before .before .before .args .body .now)) (omega (arith, c .before .before .before .word .ensures)), e)
@@ -38,7 +38,7 @@ returns-2 c =
 -- src/lib.rt:441:9
 returns-3 : tie.Need-returns-3
 unfolding x64Reach
-returns-3 c = 
+returns-3 c =
     let os = chain (c .before .before .before .before .before .before .args .body .now) in
     let r : reaches 8 os ≡ true = not-false (reaches 8 os) (sym (chain-lost os) ∙ sym (ap (λ x. x .lost) (c .before .before .scan-chain .ensures)) ∙ c .before .if2 .left) in
     let e : inReach 8 os ≡ true = sym (chain-reach (c .before .before .before .before .before .before .args .body .now) (c .before .before .before .before .before .before .pre)) ∙ r in
@@ -48,7 +48,7 @@ returns-3 c =
 -- src/lib.rt:429:1
 returns-4 : tie.Need-returns-4
 unfolding x64Reach
-returns-4 c = 
+returns-4 c =
     let os = chain (c .before .before .before .before .before .before .args .body .now) in
     let r : reaches 8 os ≡ true = not-false (reaches 8 os) (sym (chain-lost os) ∙ sym (ap (λ x. x .lost) (c .before .before .scan-chain .ensures)) ∙ c .before .if2 .left) in
     let e : inReach 8 os ≡ true = sym (chain-reach (c .before .before .before .before .before .before .args .body .now) (c .before .before .before .before .before .before .pre)) ∙ r in

@@ -33,7 +33,7 @@ all-zero-requires c κs = search needs
 -- src/lib.rt:592:9
 returns : tie.Need-returns
 unfolding x64Skipped
-returns c = 
+returns c =
     let ws = c .before .before .before .before .before .before .args .body .now in
     let a : allZero (word ws 0) (word ws 1) (word ws 2) ≡ true = rw (c .before .before .before .before .word .ensures, c .before .before .before .word2 .ensures, c .before .before .word3 .ensures) at (sym (c .before .all-zero .ensures) ∙ c .if1 .taken) in
     or-yes (allZero (word ws 0) (word ws 1) (word ws 2)) _ a
@@ -41,7 +41,7 @@ returns c =
 -- src/lib.rt:595:9
 returns-2 : tie.Need-returns-2
 unfolding x64Skipped
-returns-2 c = 
+returns-2 c =
     let ws = c .before .before .before .before .before .before .before .args .body .now in
     let a : allZero (word ws 0) (word ws 1) (word ws 2) ≡ false = rw (c .before .before .before .before .before .word .ensures, c .before .before .before .before .word2 .ensures, c .before .before .before .word3 .ensures) at (sym (c .before .before .all-zero .ensures) ∙ c .before .if1 .left) in
     or-yes (ltb (word ws 1) (word ws 0)) _ (lt-ltb (word ws 1) (word ws 0) (omega (arith, c .before .before .before .before .before .word .ensures, c .before .before .before .before .word2 .ensures))) ∙ or-no (allZero (word ws 0) (word ws 1) (word ws 2)) _ a
@@ -53,7 +53,7 @@ undecodable-requires c κs = search needs
 -- src/lib.rt:585:1
 returns-3 : tie.Need-returns-3
 unfolding x64Skipped
-returns-3 c = 
+returns-3 c =
     let ws = c .before .before .before .before .before .before .before .before .args .body .now in
     let a : allZero (word ws 0) (word ws 1) (word ws 2) ≡ false = rw (c .before .before .before .before .before .before .word .ensures, c .before .before .before .before .before .word2 .ensures, c .before .before .before .before .word3 .ensures) at (sym (c .before .before .before .all-zero .ensures) ∙ c .before .before .if1 .left) in
     c .undecodable .ensures ∙ or-no (ltb (word ws 1) (word ws 0)) _ (le-ltb (word ws 1) (word ws 0) (omega (arith, c .before .before .before .before .before .before .word .ensures, c .before .before .before .before .before .word2 .ensures))) ∙ or-no (allZero (word ws 0) (word ws 1) (word ws 2)) _ a

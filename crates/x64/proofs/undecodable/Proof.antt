@@ -57,7 +57,7 @@ undecodable-ops-requires c κs = (omega (arith, c .before .before .loop .inv .bo
 
 -- src/lib.rt:566:13
 returns : tie.Need-returns Inv-loop μ-loop
-returns c = 
+returns c =
     or-yes (undecodableOps (c .before .before .before .before .before .before .before .before .args .body .now) (c .before .before .before .before .loop .a + 3) (word (c .before .before .before .before .before .before .before .before .args .body .now) (c .before .before .before .before .loop .a + 2))) _ (rw (c .before .before .word2 .ensures) at (sym (c .before .undecodable-ops .ensures) ∙ c .if1 .taken))
     ∙ sym (undecodable-step (c .before .before .before .before .before .before .before .before .args .body .now) (c .before .before .before .before .loop .m) (c .before .before .before .before .loop .a) (search needs)) ∙ c .before .before .before .before .loop .inv .rest
 

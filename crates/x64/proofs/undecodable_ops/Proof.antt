@@ -28,7 +28,7 @@ word-requires c κs = search needs
 
 -- src/lib.rt:539:13
 returns : tie.Need-returns Inv-loop μ-loop
-returns c = 
+returns c =
     let l = c .before .before .before .loop in
     let x = word (c .before .before .before .before .before .args .body .now) (l .a) in
     or-yes (eqb x 8) _ (eq-eqb x 8 (sym (c .before .word .ensures) ∙ c .if1 .taken)) ∙ sym (undecodable-ops-step (c .before .before .before .before .before .args .body .now) (l .a) (l .k) (search needs)) ∙ l .inv .1
@@ -47,7 +47,7 @@ loop-less c = search needs
 
 -- src/lib.rt:537:5
 loop-again : tie.Need-loop-again Inv-loop μ-loop
-loop-again c = 
+loop-again c =
     let l = c .before .before .before .loop in
     let x = word (c .before .before .before .before .before .args .body .now) (l .a) in (
       omega arith,

@@ -53,7 +53,7 @@ advance-requires c κs = search needs
 
 -- src/lib.rt:333:5
 returns-4 : tie.Need-returns-4
-returns-4 c = 
+returns-4 c =
     let s = c .before .before .before .before .before .before .before .args .self in
     let o = c .before .before .before .before .before .before .before .args .op in
     let j : valueOf o < 2 ^ 31 = omega (arith, c .before .before .before .before .before .value-of .ensures) in

@@ -1,0 +1,40 @@
+// One entry of a book, of whatever kind: what it comes to and what it leaves to the next.
+ghost use mathlib.Core.Path.{_≡_};
+ghost use Rattle.entry.specs.Entry.{noLast};
+
+// What becomes of an entry: refused by this number, skipped, or written.
+pub enum Judged {
+    Refuse(u32),
+    Skip,
+    Write,
+}
+
+// The last PDB entry not skipped, if there was one: the next one that equals it in these is skipped.
+pub struct Last {
+    pub some: bool,
+    pub ty: u32,
+    pub start: u32,
+    pub code_size: u32,
+    pub prolog_size: u32,
+}
+
+// An entry put into a slice: its refusal's number or 0, the place after its text, and what it leaves to the next.
+pub struct Wrote {
+    pub number: u32,
+    pub at: usize,
+    pub last: Last,
+}
+
+impl Last {
+    pub fn none() -> Last
+        ensures { λ r. ⌜ r ≡ noLast ⌝ }
+    {
+        Last {
+            some: false,
+            ty: 0,
+            start: 0,
+            code_size: 0,
+            prolog_size: 0,
+        }
+    }
+}
