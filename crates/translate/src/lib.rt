@@ -1,0 +1,194 @@
+// The call: every entry of a book in turn, through the work area into the text, with refusals 1 to 9.
+use book::contents;
+use book::count_of;
+use book::kind_of;
+use book::size_of;
+use book::start_of;
+use entry::Last;
+use entry::Wrote;
+use text::put_bytes;
+ghost use mathlib.Core.Path.{_≡_};
+ghost use mathlib.Core.Bool.{true};
+ghost use Prim.Native.Nat.{_≤_};
+ghost use lib.ListN.{length, replicate};
+ghost use Rattle.entry.specs.Entry.{Processed};
+ghost use Rattle.book.specs.Book.{contentsOk};
+ghost use Rattle.translate.specs.Outcome.{AREA, entryOf, walkOf, outcome, Called, Exported};
+ghost use Rattle.translate.specs.Outcome.Laws.{Stepped, Ended};
+
+// The bytes of the work area that are used, and left zero.
+const AREA: usize = 8192;
+
+// The longest text of an entry.
+const LONGEST: usize = 8192;
+
+const MOST_LIMIT: u32 = 32;
+
+// What a call returns: a refusal's number or 0, the entries done (skipped ones included), and the length of their text.
+pub struct Returned {
+    pub number: u32,
+    pub entries: usize,
+    pub length: usize,
+}
+
+// After an entry: its number, where the text goes on, and what the entry leaves to the next.
+pub struct Next {
+    pub number: u32,
+    pub used: usize,
+    pub last: Last,
+}
+
+// One entry of a book of this kind, put at `at`.
+fn process(kind: u32, limit: u32, last: Last, body: &[u32], out: &mut [u8], at: usize) -> Wrote
+    ensures { λ r. ⌜ Processed (entryOf kind limit last (now (body .entry))) (now (out .entry)) at (now (out .exit)) r ⌝ }
+{
+    x64::process_pe(out, at, body, limit, last)
+}
+
+// One entry through the work area into the text, behind the first `used` bytes of it.
+fn step(
+    kind: u32,
+    limit: u32,
+    last: Last,
+    body: &[u32],
+    work: &mut [u8],
+    text: &mut [u8],
+    used: usize,
+) -> Next
+    requires { ⌜ (length (now work) ≡ AREA) × (used ≤ length (now text)) ⌝ }
+    ensures { λ r. ⌜ Stepped (entryOf kind limit last (now (body .entry))) (now (text .entry)) used (now (text .exit)) (r .number) (r .used) (r .last) ⌝ }
+{
+    let e = process(kind, limit, last, body, work, 0);
+    let number = e.number;
+    let size = e.at;
+    let next = e.last;
+    if number != 0 {
+        return Next {
+            number,
+            used,
+            last: next,
+        };
+    }
+    if LONGEST < size {
+        return Next {
+            number: 8,
+            used,
+            last: next,
+        };
+    }
+    if text.len() - used < size {
+        return Next {
+            number: 9,
+            used,
+            last: next,
+        };
+    }
+    let p = put_bytes(text, used, &work[..size]);
+    Next {
+        number: 0,
+        used: p,
+        last: next,
+    }
+}
+
+// The entries in turn.
+fn entries(book: &[u32], limit: u32, work: &mut [u8], text: &mut [u8]) -> Returned
+    requires { ⌜ (contentsOk (now book) ≡ true) × (length (now work) ≡ AREA) ⌝ }
+    ensures { λ r. ⌜ Ended (walkOf (now (book .entry)) limit (length (now (text .entry)))) (now (text .entry)) (now (text .exit)) r ⌝ }
+{
+    let kind = kind_of(book);
+    let n = count_of(book);
+    let mut last = Last::none();
+    let mut used = 0;
+    let mut i = 0;
+    while i < n {
+        let a = start_of(book, i);
+        let e = a + size_of(book, i);
+        let s = step(kind, limit, last, &book[a..e], work, text, used);
+        let number = s.number;
+        if number != 0 {
+            return Returned {
+                number,
+                entries: i,
+                length: used,
+            };
+        }
+        used = s.used;
+        last = s.last;
+        i += 1;
+    }
+    Returned {
+        number: 0,
+        entries: n,
+        length: used,
+    }
+}
+
+fn clear(out: &mut [u8])
+    ensures { λ r. ⌜ now (out .exit) ≡ replicate (length (now (out .entry))) 0 ⌝ }
+{
+    let mut i = 0;
+    while i < out.len() {
+        out[i] = 0;
+        i += 1;
+    }
+}
+
+// The entries in turn, through a work area that is left clear.
+fn run(book: &[u32], limit: u32, work: &mut [u8], text: &mut [u8]) -> Returned
+    requires { ⌜ (contentsOk (now book) ≡ true) × (length (now work) ≡ AREA) ⌝ }
+    ensures { λ r. ⌜ Ended (walkOf (now (book .entry)) limit (length (now (text .entry)))) (now (text .entry)) (now (text .exit)) r ⌝ }
+    ensures { λ r. ⌜ now (work .exit) ≡ replicate (length (now (work .entry))) 0 ⌝ }
+{
+    let r = entries(book, limit, work, text);
+    clear(work);
+    r
+}
+
+// A book into STACK lines, under a chain limit.
+pub fn translate(book: &[u32], limit: u32, work: &mut [u8], text: &mut [u8]) -> Returned
+    ensures { λ r. ⌜ Called (outcome (now (book .entry)) limit (now (work .entry)) (now (text .entry))) (now (work .exit)) (now (text .exit)) r ⌝ }
+{
+    if work.len() < AREA {
+        return Returned {
+            number: 1,
+            entries: 0,
+            length: 0,
+        };
+    }
+    if MOST_LIMIT < limit {
+        return Returned {
+            number: 2,
+            entries: 0,
+            length: 0,
+        };
+    }
+    if contents(book) {
+        return run(book, limit, &mut work[..AREA], text);
+    }
+    Returned {
+        number: 3,
+        entries: 0,
+        length: 0,
+    }
+}
+
+// The call for C: the number is returned; entries and length are stored where `counts` has room for two.
+#[no_mangle]
+pub extern "C" fn stacklines_translate(
+    book: &[u32],
+    limit: u32,
+    work: &mut [u8],
+    text: &mut [u8],
+    counts: &mut [u64],
+) -> u32
+    ensures { λ r. ⌜ Exported (outcome (now (book .entry)) limit (now (work .entry)) (now (text .entry))) (now (counts .entry)) (now (work .exit)) (now (text .exit)) (now (counts .exit)) r ⌝ }
+{
+    let r = translate(book, limit, work, text);
+    if counts.len() < 2 {
+        return r.number;
+    }
+    counts[0] = r.entries as u64;
+    counts[1] = r.length as u64;
+    r.number
+}
