@@ -55,6 +55,11 @@ bodiesFrom b i (suc k) = body b i ∷ bodiesFrom b (suc i) k
 unfoldable pub bodies : List ℕ → List (List ℕ)
 bodies b = bodiesFrom b 0 (count b)
 
+-- what to unfold where books are to compute
+unfoldable pub Book·open : Type 0
+unfolding kind count startOf sizeOf headerOk bodiesOk contentsOk body bodiesFrom bodies
+Book·open = Unit {0}
+
 -- ---- what the rules give
 
 left : (a b : Bool) → a && b ≡ true → a ≡ true

@@ -8,8 +8,8 @@ use lib.IntN.{ℤ, pos, negsuc, subℕ}
 use lib.Dec.{ltb, leb, eqb}
 use Rattle.text.specs.Text.{ascii}
 use Rattle.text.specs.Tests.{all}
-use Rattle.names.specs.Names.{peName}
-use Rattle.lines.specs.Lines.{Form, Rule, rule, registerPlus, atRegisterPlus, atCfaMinus, cfa, init, lineText}
+use Rattle.names.specs.Names.{peName, pe-x64}
+use Rattle.lines.specs.Lines.{Form, Rule, rule, registerPlus, atRegisterPlus, atCfaMinus, cfa, init, lineText, Lines·open}
 use Rattle.entry.specs.declared.Last.{Last}
 use Rattle.entry.specs.Entry.{Entry, comesTo}
 use Rattle.x64.specs.declared.Op.{Op}
@@ -230,3 +230,8 @@ x64Judged limit ws =
 
 unfoldable pub x64Entry : ℕ → Last → List ℕ → Entry
 x64Entry limit last ws = comesTo (x64Judged limit ws) (x64Text ws) last last
+
+-- what to unfold where x64 entries are to compute
+unfoldable pub X64·open : Type 0
+unfolding Lines·open peName pe-x64 opOf stored infos backwards inOrder chain growthOf valueOf machineRules opRules opCfa isMachine anyMachine run total cfaForm raRules ranRules x64Text opFits opsFit infoFits infosFit x64Layout allZero undecodableOps undecodableInfos x64Skipped inside printed inReach isSet setCount x64Reach x64Judged x64Entry
+X64·open = Unit {0}

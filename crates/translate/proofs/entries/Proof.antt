@@ -89,7 +89,7 @@ same-length-2 c = let l = c .before .before .before .before .before .before .bef
 
 -- src/lib.rt:110:13
 returns : tie.Need-returns Inv-loop μ-loop
-returns c = 
+returns c =
     let l = c .before .before .before .before .before .before .before .before .before .before .before .before .loop in
     going-stop (l .inv .4) (omega (arith, c .before .before .before .before .before .before .before .before .before .before .before .before .before .before .count-of .ensures, c .before .before .before .before .before .before .before .before .before .before .before .loop-test .taken)) (rw (part-is (c .before .before .before .before .before .before .before .before .before .before .before .before .before .before .before .before .before .before .before .args .book .now) (l .i) (c .before .before .before .before .before .before .before .before .before .before .start-of .result) (c .before .before .before .before .before .before .before .before .before .size-of .result) (c .before .before .before .before .before .before .before .before .before .before .start-of .ensures) (c .before .before .before .before .before .before .before .before .before .size-of .ensures), c .before .before .before .before .before .before .before .before .before .before .before .before .before .before .before .kind-of .ensures) at (c .before .before .before .before .before .step .ensures)) (c .if1 .taken)
 
@@ -103,7 +103,7 @@ loop-less c = search needs
 
 -- src/lib.rt:104:5
 loop-again : tie.Need-loop-again Inv-loop μ-loop
-loop-again c = 
+loop-again c =
     let l = c .before .before .before .before .before .before .before .before .before .before .before .before .before .loop in (
       omega arith,
       search needs,

@@ -1,0 +1,87 @@
+-- Document 01's starred specimens of x64 books, as one table: each is what `outcome` computes.
+use Prim.Native.Nat.{ℕ}
+use mathlib.Core.Bool.{Bool, true, false, _&&_}
+use mathlib.Core.List.{List, [], _∷_, _++_}
+use lib.ListN.{length, take, replicate}
+use lib.Dec.{T, eqb}
+use Rattle.text.specs.Text.{ascii}
+use Rattle.text.specs.Tests.{all, eqw}
+use Rattle.book.specs.Book.{Book·open}
+use Rattle.x64.specs.X64.{X64·open}
+use Rattle.translate.specs.Outcome.{AREA, Outcome, entryOf, verdict, walk, walkOf, outcome}
+
+pub record Case : Type 0 where
+  pub book : List ℕ
+  pub limit : ℕ
+  pub number : ℕ
+  pub entries : ℕ
+  pub text : List ℕ
+
+-- a book of one function from 1000h to 1040h, of one info with these words (document 01's words 20480 and 1 before it)
+abbrev one : ℕ → List ℕ → List ℕ
+one n info = 1 ∷ 1 ∷ 4 ∷ n ∷ 4096 ∷ 4160 ∷ 20480 ∷ 1 ∷ info
+
+pub cases : List Case
+cases =
+    -- push $rbx, allocate 32
+    record {
+      book = 1 ∷ 1 ∷ 4 ∷ 13 ∷ 4096 ∷ 4160 ∷ 20480 ∷ 1 ∷ 0 ∷ 0 ∷ 2 ∷ 2 ∷ 0 ∷ 32 ∷ 1 ∷ 3 ∷ 0 ∷ [];
+      limit = 32;
+      number = 0;
+      entries = 1;
+      text = ascii "STACK CFI INIT 1000 40 .cfa: $rsp 48 + $rbx: .cfa 16 - ^ .ra: .cfa 8 - ^\n";
+    }
+    -- allocations 16 and 16 instead of 32
+    ∷ record {
+      book = one 16 (0 ∷ 0 ∷ 3 ∷ 2 ∷ 0 ∷ 16 ∷ 2 ∷ 0 ∷ 16 ∷ 1 ∷ 3 ∷ 0 ∷ []);
+      limit = 32;
+      number = 0;
+      entries = 1;
+      text = ascii "STACK CFI INIT 1000 40 .cfa: $rsp 48 + $rbx: .cfa 16 - ^ .ra: .cfa 8 - ^\n";
+    }
+    -- a lone machine frame, without and with an error code
+    ∷ record {
+      book = one 10 (0 ∷ 0 ∷ 1 ∷ 6 ∷ 0 ∷ 0 ∷ []);
+      limit = 32;
+      number = 0;
+      entries = 1;
+      text = ascii "STACK CFI INIT 1000 40 .cfa: $rsp 48 + $rsp: .cfa 24 - ^ .ra: .cfa 48 - ^\n";
+    }
+    ∷ record {
+      book = one 10 (0 ∷ 0 ∷ 1 ∷ 6 ∷ 0 ∷ 1 ∷ []);
+      limit = 32;
+      number = 0;
+      entries = 1;
+      text = ascii "STACK CFI INIT 1000 40 .cfa: $rsp 56 + $rsp: .cfa 24 - ^ .ra: .cfa 48 - ^\n";
+    }
+    -- push $rbp, allocate 32, set $rbp with offset 16
+    ∷ record {
+      book = one 16 (5 ∷ 16 ∷ 3 ∷ 5 ∷ 0 ∷ 0 ∷ 2 ∷ 0 ∷ 32 ∷ 1 ∷ 5 ∷ 0 ∷ []);
+      limit = 32;
+      number = 0;
+      entries = 1;
+      text = ascii "STACK CFI INIT 1000 40 .cfa: $rbp 32 + $rbp: .cfa 16 - ^ .ra: .cfa 8 - ^\n";
+    }
+    -- $rbx saved at RSP + 16 where S is 8
+    ∷ record {
+      book = one 10 (0 ∷ 0 ∷ 1 ∷ 3 ∷ 3 ∷ 16 ∷ []);
+      limit = 32;
+      number = 0;
+      entries = 1;
+      text = ascii "STACK CFI INIT 1000 40 .cfa: $rsp 8 + $rbx: .cfa -8 - ^ .ra: .cfa 8 - ^\n";
+    }
+    -- limit 0: the all-zero entry is skipped; begin 1 and end 2 give 5
+    ∷ record { book = 1 ∷ 1 ∷ 4 ∷ 7 ∷ 0 ∷ 0 ∷ 0 ∷ 1 ∷ 0 ∷ 0 ∷ 0 ∷ []; limit = 0; number = 0; entries = 1; text = [] }
+    ∷ record { book = 1 ∷ 1 ∷ 4 ∷ 7 ∷ 1 ∷ 2 ∷ 0 ∷ 1 ∷ 0 ∷ 0 ∷ 0 ∷ []; limit = 0; number = 5; entries = 0; text = [] }
+    ∷ []
+
+abbrev gives : Outcome → Case → Bool
+gives o k = (eqb (o .number) (k .number) && (eqb (o .entries) (k .entries) && eqb (o .length) (length (k .text)))) && eqw (take (o .length) (o .text)) (k .text)
+
+-- with a work area just large enough and room for 200 bytes
+abbrev passes : Case → Bool
+passes k = gives (outcome (k .book) (k .limit) (replicate AREA 7) (replicate 200 7)) k
+
+pub worked : T (all passes cases)
+unfolding cases Book·open X64·open entryOf verdict walk walkOf outcome
+worked = tt
