@@ -146,13 +146,14 @@ fn tune(
         longer(&mut body, added);
         added += 1;
     }
-    for i in 0..text_of(kind, &body).saturating_sub(target) {
+    let over = text_of(kind, &body).saturating_sub(target);
+    for i in 0..over.min(100) {
         shorter(&mut body, i);
     }
     body
 }
 
-/// The length of the entry's text, where it is not refused for its length.
+/// The length of the entry's text, before it is refused for it; without end where it is refused otherwise.
 fn text_of(kind: u32, body: &[u32]) -> usize {
     let mut tally = Tally::default();
     let judged = match kind {
@@ -163,7 +164,8 @@ fn text_of(kind: u32, body: &[u32]) -> usize {
     };
     match judged {
         crate::Judged::Text(text) => text.len(),
-        _ => usize::MAX,
+        crate::Judged::Skipped(_) => 0,
+        crate::Judged::Refused(_) => usize::MAX,
     }
 }
 
