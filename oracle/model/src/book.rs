@@ -2,7 +2,7 @@
 
 use crate::{arm64, dwarf, pdb, x64, Judged, Tally, ALL_KINDS, ARM64, DWARF, X64};
 
-/// Words of work area that a call needs, and the longest text of an entry.
+/// Bytes of work area that a call needs, and the longest text of an entry.
 pub const WORK: usize = 8192;
 const MOST_LIMIT: u32 = 32;
 const MOST_ENTRIES: u32 = 1024;

@@ -1,9 +1,14 @@
 //! Makes a book that shows a fault smaller, without knowing its kind: entries are dropped, stretches of words are
-//! cut out together with a count that falls by one, words are made smaller.
+//! cut out together with a count that falls by as many, words are made smaller.
 
 use crate::book::{assemble, bodies};
+use std::ops::Range;
 
-const MOST_TRIES: usize = 30_000;
+const MOST_TRIES: usize = 40_000;
+/// How many stretches are cut out at once.
+const BLOCKS: [usize; 4] = [64, 16, 4, 1];
+/// How many words before a stretch are tried as its count.
+const MOST_COUNTS: usize = 60;
 /// Lengths of an operation, a range, a rule, an info without operations, a row without rules, a byte.
 const STRETCHES: [usize; 6] = [9, 6, 4, 3, 2, 1];
 
@@ -51,24 +56,29 @@ impl Shrinker<'_> {
     }
 
     fn cut(&mut self, kind: u32, parts: &mut [Vec<u32>], i: usize) {
-        for stretch in STRETCHES {
-            let mut at = parts[i].len().saturating_sub(stretch);
-            while at > 0 {
-                self.cut_at(kind, parts, i, at, stretch);
-                at -= 1;
+        for block in BLOCKS {
+            for stretch in STRETCHES {
+                let words = block * stretch;
+                let step = if block == 1 { 1 } else { words / 2 };
+                let mut at = parts[i].len().saturating_sub(words);
+                while at > 0 {
+                    self.cut_at(kind, &mut parts[..], i, at..at + words, block as u32);
+                    at = at.saturating_sub(step);
+                }
             }
         }
     }
 
-    fn cut_at(&mut self, kind: u32, parts: &mut [Vec<u32>], i: usize, at: usize, stretch: usize) {
+    fn cut_at(&mut self, kind: u32, parts: &mut [Vec<u32>], i: usize, words: Range<usize>, by: u32) {
         let whole = parts[i].clone();
-        if at + stretch > whole.len() {
+        if words.end > whole.len() {
             return;
         }
-        for count in (0..at).rev().filter(|&c| whole[c] > 0 && whole[c] <= 1024) {
+        let counts = (0..words.start).filter(|&c| whole[c] >= by && whole[c] <= 1024);
+        for count in counts.rev().take(MOST_COUNTS) {
             parts[i] = whole.clone();
-            parts[i].drain(at..at + stretch);
-            parts[i][count] -= 1;
+            parts[i].drain(words.clone());
+            parts[i][count] -= by;
             if self.keeps(kind, parts) {
                 return;
             }

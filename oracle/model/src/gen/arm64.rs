@@ -33,8 +33,10 @@ pub fn body(rng: &mut Rng) -> Vec<u32> {
         17 | 18 => registers_at_limit(rng),
         19 => undecodable(rng),
         20 => {
-            address = u32::MAX - rng.below(30);
-            operations(rng, 9)
+            let run = operations(rng, 9);
+            let last = 4 * run.len().saturating_sub(1) as u32;
+            address = (u32::MAX - last).saturating_add(rng.below(3)).saturating_sub(rng.below(3));
+            run
         }
         21 if rng.one_in(4) => return long(rng),
         21 => pairs_and_next(rng),

@@ -43,11 +43,18 @@ pub fn body(rng: &mut Rng, before: &[Vec<u32>]) -> Vec<u32> {
         return long(rng);
     }
     let mut entry = function(rng);
-    if rng.one_in(4) {
+    if rng.one_in(3) {
         repeat(rng, before, &mut entry);
     }
-    match rng.below(10) {
-        0..=3 => {}
+    if rng.one_in(10) {
+        entry.key[2] = rng.pick(&[0x8000_0000, 0xffff_ff6e, u32::MAX]);
+    }
+    match rng.below(11) {
+        0..=2 => {}
+        3 => {
+            entry.prologs.clear();
+            entry.codes.truncate(rng.index(2));
+        }
         4..=6 => {
             entry.prologs = ranges(rng);
             entry.codes = ranges(rng);
@@ -143,8 +150,8 @@ fn neighbours(rng: &mut Rng, entry: &mut Entry) {
     entry.codes = vec![(middle, middle.saturating_add(after))];
     match rng.below(6) {
         0 => entry.codes[0].0 = middle.saturating_add(1).min(entry.codes[0].1),
-        1 => entry.prologs.push((5, 9)),
-        2 => entry.codes.push((5, 9)),
+        1 => entry.prologs.push(rng.pick(&[(5, 9), (u32::MAX, u32::MAX)])),
+        2 => entry.codes.push(rng.pick(&[(5, 9), (u32::MAX, u32::MAX)])),
         3 => entry.prologs.clear(),
         4 => entry.codes.clear(),
         _ => {}
