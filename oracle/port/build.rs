@@ -1,0 +1,14 @@
+//! Links the port's archive: `libtranslate.a` in LIBDIR, by default where `rt staticlib translate` writes it.
+
+use std::env;
+use std::path::PathBuf;
+
+fn main() {
+    let root = PathBuf::from(env::var("CARGO_MANIFEST_DIR").unwrap()).join("../..");
+    let dir = env::var("LIBDIR").map_or_else(|_| root.join("target/staticlib"), PathBuf::from);
+    let dir = dir.canonicalize().expect("no folder LIBDIR");
+    println!("cargo:rustc-link-search=native={}", dir.display());
+    println!("cargo:rustc-link-lib=static=translate");
+    println!("cargo:rerun-if-env-changed=LIBDIR");
+    println!("cargo:rerun-if-changed={}", dir.join("libtranslate.a").display());
+}

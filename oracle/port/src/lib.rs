@@ -1,0 +1,142 @@
+//! The port's call, with a fence of known bytes on both sides of every buffer.
+
+use model::gen::Case;
+use model::rng::Rng;
+use model::Outcome;
+
+extern "C" {
+    fn stacklines_translate(
+        book: *const u32,
+        book_len: usize,
+        limit: u32,
+        work: *mut u8,
+        work_len: usize,
+        text: *mut u8,
+        text_len: usize,
+        counts: *mut u64,
+        counts_len: usize,
+    ) -> u32;
+}
+
+const FENCE: usize = 64;
+
+/// A buffer between two fences.
+struct Fenced<T> {
+    all: Vec<T>,
+    fence: T,
+}
+
+impl<T: Copy + PartialEq> Fenced<T> {
+    fn new(content: &[T], fence: T) -> Self {
+        let mut all = vec![fence; FENCE];
+        all.extend(content);
+        all.extend([fence; FENCE]);
+        Fenced { all, fence }
+    }
+
+    fn inside(&self) -> &[T] {
+        &self.all[FENCE..self.all.len() - FENCE]
+    }
+
+    fn len(&self) -> usize {
+        self.inside().len()
+    }
+
+    fn pointer(&mut self) -> *mut T {
+        self.all[FENCE..].as_mut_ptr()
+    }
+
+    fn whole(&self) -> bool {
+        let (before, after) = (&self.all[..FENCE], &self.all[self.all.len() - FENCE..]);
+        before.iter().chain(after).all(|b| *b == self.fence)
+    }
+}
+
+/// What one call of the port gave.
+pub struct Called {
+    pub outcome: Outcome,
+    pub counts: Vec<u64>,
+    /// What the call must not do, and did.
+    pub faults: Vec<&'static str>,
+}
+
+/// Bytes that stand in a buffer before the call.
+pub fn filling(seed: u64, len: usize) -> Vec<u8> {
+    let mut rng = Rng::new(seed);
+    let mut bytes: Vec<u8> = Vec::with_capacity(len + 8);
+    while bytes.len() < len {
+        bytes.extend(rng.next().to_le_bytes());
+    }
+    bytes.truncate(len);
+    bytes
+}
+
+/// What stands in the counts before the call.
+pub fn counts_before(len: usize) -> Vec<u64> {
+    (0..len as u64).map(|i| 0xdead_beef_0000_0000 + i).collect()
+}
+
+pub fn call(case: &Case, work: &[u8], text: &[u8]) -> Called {
+    let mut book = Fenced::new(&case.book, 0xa5a5_a5a5);
+    let (mut work, mut text) = (Fenced::new(work, 0xa5), Fenced::new(text, 0x5a));
+    let mut counts = Fenced::new(&counts_before(case.counts_len), u64::MAX / 3);
+    // SAFETY: every pointer leads to as many elements as its length says.
+    let number = unsafe {
+        stacklines_translate(
+            book.pointer(),
+            book.len(),
+            case.limit,
+            work.pointer(),
+            work.len(),
+            text.pointer(),
+            text.len(),
+            counts.pointer(),
+            counts.len(),
+        )
+    };
+    let mut faults = Vec::new();
+    let checks = [
+        (book.inside() == case.book, "book changed"),
+        (book.whole(), "fence of the book"),
+        (work.whole(), "fence of the work area"),
+        (text.whole(), "fence of the text"),
+        (counts.whole(), "fence of the counts"),
+    ];
+    faults.extend(checks.iter().filter(|(holds, _)| !holds).map(|(_, what)| *what));
+    let counted = |i: usize| counts.inside().get(i).map_or(0, |&n| n as usize);
+    let outcome = Outcome {
+        number,
+        entries: counted(0),
+        length: counted(1),
+        work: work.inside().to_vec(),
+        text: text.inside().to_vec(),
+    };
+    Called { outcome, counts: counts.inside().to_vec(), faults }
+}
+
+/// What differs between a call of the port and the outcome that is due.
+pub fn differences(case: &Case, due: &Outcome, called: &Called) -> Vec<String> {
+    let mut found: Vec<String> = called.faults.iter().map(|f| f.to_string()).collect();
+    if called.outcome.number != due.number {
+        found.push(format!("number {} for {}", called.outcome.number, due.number));
+    }
+    let mut counts = counts_before(case.counts_len);
+    if case.counts_len >= 2 {
+        counts[0] = due.entries as u64;
+        counts[1] = due.length as u64;
+    }
+    if called.counts != counts {
+        found.push(format!("counts {:?} for {counts:?}", called.counts));
+    }
+    if let Some(at) = first_difference(&called.outcome.work, &due.work) {
+        found.push(format!("work area from byte {at}"));
+    }
+    if let Some(at) = first_difference(&called.outcome.text, &due.text) {
+        found.push(format!("text from byte {at}"));
+    }
+    found
+}
+
+fn first_difference(a: &[u8], b: &[u8]) -> Option<usize> {
+    a.iter().zip(b).position(|(x, y)| x != y)
+}

@@ -1,0 +1,49 @@
+#!/bin/sh
+# Builds and runs one of the programs: run.sh NAME WORDS...
+# NAME is test, model_vs_rust, vectors, port_vs_model or port_vs_rust.
+# What needs the Rust source or the port's archive says so where these are not at hand, and is skipped.
+set -eu
+
+oracle=$(cd "$(dirname "$0")" && pwd)
+name=$1
+shift
+
+need_rust() {
+    src=${RUST_SRC:-$oracle/../../shared/docs/src}
+    for file in src--symbolic-cfi--src--lib.rs.txt src--symbolic-common--src--types.rs.txt; do
+        if [ ! -f "$src/$file" ]; then
+            echo "skipped: no Rust source"
+            exit 0
+        fi
+    done
+    RUST_SRC=$(cd "$src" && pwd)
+    export RUST_SRC
+}
+
+need_port() {
+    LIBDIR=${LIBDIR:-$oracle/../target/staticlib}
+    if [ ! -f "$LIBDIR/libtranslate.a" ]; then
+        echo "skipped: no libtranslate.a"
+        exit 0
+    fi
+    LIBDIR=$(cd "$LIBDIR" && pwd)
+    export LIBDIR
+}
+
+case $name in
+test) package=model ;;
+model_vs_rust | vectors) need_rust; package=rust ;;
+port_vs_model) need_port; package=port ;;
+port_vs_rust) need_rust; need_port; package=port_rust ;;
+*)
+    echo "run.sh: no program $name" >&2
+    exit 2
+    ;;
+esac
+
+cd "$oracle"
+if [ "$name" = test ]; then
+    exec cargo test --offline --release -q -j1 -p model
+fi
+cargo build --offline --release -q -j1 -p "$package" --bin "$name"
+exec "${CARGO_TARGET_DIR:-target}/release/$name" "$@"

@@ -1,0 +1,77 @@
+//! The unchanged Rust, driven by books: its objects are filled in by hand from the bodies.
+
+include!(concat!(env!("OUT_DIR"), "/source.rs"));
+
+mod arm64;
+mod dwarf;
+mod pdb;
+mod x64;
+
+use model::book::{assemble, bodies};
+use model::{translate, Tally, Translated, ALL_KINDS, ARM64, DWARF, X64};
+use symbolic_cfi::{AsciiCfiWriter, CfiErrorKind};
+use symbolic_debuginfo::Object;
+
+/// What the Rust gives: the text, and whether it stopped at a chain that is too long.
+#[derive(Debug, PartialEq, Eq)]
+pub struct Answer {
+    pub text: Vec<u8>,
+    pub exceeded: bool,
+}
+
+/// The Rust's answer to a book of its domain.
+pub fn rust_answer(book: &[u32], limit: u32) -> Answer {
+    let bodies = bodies(book).expect("a book that keeps the contents rules");
+    match book[0] {
+        X64 => process(&x64::object(&bodies), chain_limit(limit)),
+        ARM64 => process(&arm64::object(&bodies), None),
+        DWARF => dwarf::answer(&bodies),
+        _ => pdb::answer(&bodies),
+    }
+}
+
+/// 32 stands for no limit.
+fn chain_limit(limit: u32) -> Option<usize> {
+    (limit != 32).then_some(limit as usize)
+}
+
+fn process(object: &Object, limit: Option<usize>) -> Answer {
+    let mut text = Vec::new();
+    let mut writer = AsciiCfiWriter::new(&mut text).max_unwind_chain_len(limit);
+    let exceeded = match writer.process(object) {
+        Ok(()) => false,
+        Err(e) if e.kind() == CfiErrorKind::ExceededUnwindChainLength => true,
+        Err(e) => panic!("the Rust failed: {e}"),
+    };
+    Answer { text, exceeded }
+}
+
+/// The part of a book that lies in the Rust's domain: all of it; the entries up to the one refused by 5, as no later
+/// one is looked at; or the entries before one refused otherwise. With it the model's answer to that part.
+/// None where not even the contents rules hold.
+pub fn in_domain(book: &[u32], limit: u32, tally: &mut Tally) -> Option<(Vec<u32>, Translated)> {
+    let mut done = translate(book, limit, usize::MAX, usize::MAX, ALL_KINDS, tally);
+    let part = match done.number {
+        0 => return Some((book.to_vec(), done)),
+        1..=3 => return None,
+        5 => done.entries + 1,
+        _ => {
+            done.number = 0;
+            done.entries
+        }
+    };
+    let bodies: Vec<Vec<u32>> = bodies(book)?[..part].iter().map(|b| b.to_vec()).collect();
+    Some((assemble(book[0], &bodies), done))
+}
+
+/// Whether the model and the Rust differ about the book.
+pub fn differs(book: &[u32], limit: u32) -> bool {
+    match in_domain(book, limit, &mut Tally::default()) {
+        Some((part, done)) => !agrees(&done, &rust_answer(&part, limit)),
+        None => false,
+    }
+}
+
+pub fn agrees(done: &Translated, answer: &Answer) -> bool {
+    done.text == answer.text && (done.number == 5) == answer.exceeded
+}
