@@ -63,7 +63,10 @@ put-digits-returns : (t : ℕ) → put-digits-lts.Need-returns (
   put-digits-below t,
   put-digits.Post,
 ) (put-digits-at t) put-digits.Post
-put-digits-returns t c = search (put-digit, needs)
+put-digits-returns t c =
+    let a = c .before .before .before .before .before .before .before .args in
+    let h : a .x < a .base = omega arith in
+    search (put-digit, needs)
 
 put-digits-div-put-digits : (t : ℕ) → put-digits-lts.Need-div-put-digits (
   digit-of-reads.Asked,
