@@ -118,6 +118,7 @@ fn pe_and_arm64(t: &mut Tally, output: &str) {
 // ---- numbers
 
 fn numbers(t: &mut Tally, output: &str) {
+    // Each with its neighbours; beside 0 stands the largest.
     let mut middles = vec![0u64];
     middles.extend((0..64).map(|k| 1u64 << k));
     middles.extend((0..20).map(|k| 10u64.pow(k)));
@@ -134,6 +135,10 @@ fn numbers(t: &mut Tally, output: &str) {
     ];
     let signed: Vec<String> = signed.iter().map(|x| format!("signed {x}")).collect();
     t.lines(output, "signed", &signed);
+
+    t.lines(output, "part", &[format!("part {}", &"STACK CFI INIT "[6..9])]);
+    let measured = |x: u64| format!("measured {}", format!("{x:x}").len());
+    t.lines(output, "measured", &[measured(0), measured(u64::MAX)]);
 }
 
 // ---- rules and lines
@@ -183,7 +188,7 @@ fn main() {
     numbers(&mut t, &output);
     rules(&mut t, &output);
     lines(&mut t, &output);
-    let known = ["cfi", "pe", "arm64", "hex", "decimal", "signed", "rule", "init", "later", "win"];
+    let known = ["cfi", "pe", "arm64", "hex", "decimal", "signed", "part", "measured", "rule", "init", "later", "win"];
     t.check(output.lines().all(|l| known.contains(&l.split(' ').next().unwrap())), "a line of no kind");
     println!("{} passed, {} failed", t.passed, t.failed);
     process::exit(if t.failed == 0 { 0 } else { 1 });

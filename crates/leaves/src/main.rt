@@ -197,6 +197,33 @@ fn show_signed_numbers() {
     }
 }
 
+// ---- parts and measures
+
+fn part(out: &mut [u8]) -> usize {
+    let p = put_bytes(out, 0, b"part ");
+    text::put_part(out, p, b"STACK CFI INIT ", 6, 9)
+}
+
+fn show_part() {
+    let mut line = [0u8; 64];
+    let n = part(&mut line);
+    show(&line, n);
+}
+
+fn measured(out: &mut [u8], n: usize) -> usize {
+    let p = put_bytes(out, 0, b"measured ");
+    put_decimal(out, p, n as u64)
+}
+
+// How long the number is, written where there is room for one byte.
+fn show_measured(x: u64) {
+    let mut short = [0u8; 1];
+    let length = put_hex(&mut short, 0, x);
+    let mut line = [0u8; 64];
+    let n = measured(&mut line, length);
+    show(&line, n);
+}
+
 // ---- rules
 
 fn rule(out: &mut [u8], name: Name, form: Form) -> usize {
@@ -310,6 +337,9 @@ fn main() {
     show_powers_of_2();
     show_powers_of_10();
     show_signed_numbers();
+    show_part();
+    show_measured(0);
+    show_measured(0xffff_ffff_ffff_ffff);
     show_rules();
     show_lines();
 }
