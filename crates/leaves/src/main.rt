@@ -11,6 +11,16 @@ use text::put_bytes;
 use text::put_decimal;
 use text::put_hex;
 
+// How far the loops below count: past the last family, past every table, past the last letter.
+const FAMILIES: u32 = 12;
+
+const REGISTERS: u32 = 256;
+
+const LETTERS: u32 = 4;
+
+// What stands for a number far beyond these.
+const FAR: u32 = 0xffff_ffff;
+
 // The first `n` bytes as a line; nothing where there are fewer.
 fn show(line: &[u8], n: usize) {
     if n <= line.len() {
@@ -71,36 +81,36 @@ fn show_arm64(letter: u32, register: u32) {
 }
 
 fn show_family(family: u32) {
-    for register in 0..256 {
+    for register in 0..REGISTERS {
         show_cfi(family, register);
     }
     show_cfi(family, 65535);
-    show_cfi(family, 0xffff_ffff);
+    show_cfi(family, FAR);
 }
 
 // Families 0 to 10 are `CpuFamily`'s; no other number is one.
 fn show_families() {
-    for family in 0..12 {
+    for family in 0..FAMILIES {
         show_family(family);
     }
-    show_family(0xffff_ffff);
+    show_family(FAR);
 }
 
 fn show_pe_names() {
-    for register in 0..256 {
+    for register in 0..REGISTERS {
         show_pe(register);
     }
-    show_pe(0xffff_ffff);
+    show_pe(FAR);
 }
 
 fn show_arm64_names() {
-    for letter in 0..4 {
+    for letter in 0..LETTERS {
         show_arm64(letter, 0);
         show_arm64(letter, 9);
         show_arm64(letter, 30);
         show_arm64(letter, 255);
     }
-    show_arm64(0xffff_ffff, 0xffff_ffff);
+    show_arm64(FAR, FAR);
 }
 
 // ---- numbers
@@ -141,7 +151,7 @@ fn show_around(x: u64) {
     show_number(std::num::wrapping_add_u64(x, 1));
 }
 
-// The powers of 2, and so those of 16.
+// The powers of 2, and so those of 16, up to 2^63.
 fn show_powers_of_2() {
     let mut x: u64 = 1;
     while x < 0x8000_0000_0000_0000 {
@@ -151,6 +161,7 @@ fn show_powers_of_2() {
     show_around(x);
 }
 
+// The powers of 10 up to 10^19, the last below 2^64.
 fn show_powers_of_10() {
     let mut x: u64 = 1;
     while x <= 1_000_000_000_000_000_000 {
@@ -160,7 +171,9 @@ fn show_powers_of_10() {
     show_around(x);
 }
 
-const SIGNED: [i64; 28] = [
+const SIGNED_COUNT: usize = 28;
+
+const SIGNED: [i64; SIGNED_COUNT] = [
     0,
     1,
     -1,
@@ -192,7 +205,7 @@ const SIGNED: [i64; 28] = [
 ];
 
 fn show_signed_numbers() {
-    for i in 0..28 {
+    for i in 0..SIGNED_COUNT {
         show_signed(SIGNED[i]);
     }
 }
