@@ -1,16 +1,16 @@
 -- A table of the source holds the names of its list: one test over the whole table, which antt computes.
-use mathlib.Core.Path.{_≡_, refl, sym, ap, _∙_}
-use mathlib.Core.Bool.{Bool, true, false, cond, _&&_}
+use mathlib.Core.Path.{_≡_, refl, _∙_}
+use mathlib.Core.Bool.{Bool, _&&_}
 use mathlib.Core.List.{List, [], _∷_, _++_}
-use Prim.Native.Nat.{ℕ, zero, suc, _+_, _-_, _*_, _<_, _≤_}
+use Prim.Native.Nat.{ℕ, zero, suc, _+_, _-_, _*_, _≤_}
 use native.Mathlib.Omega.{arith}
 use native.Mathlib.Decide.{decLt}
 use lib.Dec.{T, eqb, eqb→eq, leb, leb→le}
-use lib.ListN.{length, getD, take, replicate}
+use lib.ListN.{length, getD, replicate}
 use borrow.Author.Tests.{lt-leb}
 use Rattle.text.specs.Tests.{tests, at, eqw, eqw→eq, and-l, and-r}
 use Rattle.names.specs.Names.{Holds}
-use Rattle.names.specs.Table.{within, lengthAt, nameAt, Entry}
+use Rattle.names.specs.Table.{lengthAt, nameAt, Entry}
 use Rattle.names.specs.declared.RegisterName.{RegisterName}
 
 -- a table's bytes

@@ -1,3 +1,4 @@
+-- `put_form`: by the six cases of `Form`; a register or the CFA, then the amount.
 use lib.IntN.{ℤ}
 use mir.Syntax.{w64}
 use mir.Val.{SFits}
@@ -7,179 +8,146 @@ use Rattle.text.specs.Text.{ascii}
 use Rattle.text.specs.Text.Laws.{_⨾_, put-as}
 use Rattle.lines.specs.Lines.{amount, formText}
 use Rattle.lines.specs.Rules.{formOf}
-use native.Mathlib.Omega.{arith}
 use borrow.Author.Needs.{needs}
 use Rattle.lines.proofs.put_form.Statement.{statement}
 use Rattle.lines.proofs.put_form.Tie as tie
-use Rattle.lines.proofs.put_form.Reads as reads
-use Rattle.lines.proofs.put_form.Lts as lts
-use Rattle.lines.proofs.put_amount.Reads as put-amount-reads
-use Rattle.lines.proofs.put_reg.Reads as put-reg-reads
-use Rattle.text.proofs.put_bytes.Reads as put-bytes-reads
 
--- src/lib.rt:94:24
 enum-known-form : tie.Need-enum-known-form
 enum-known-form c = search needs
 
--- src/lib.rt:94:32
 put-reg-requires : tie.Need-put-reg-requires
 put-reg-requires c κs = search needs
 
--- src/lib.rt:95:28
 enum-known-form-2 : tie.Need-enum-known-form-2
 enum-known-form-2 c = search needs
 
--- src/lib.rt:96:17
 put-reg-requires-2 : tie.Need-put-reg-requires-2
 put-reg-requires-2 c κs = search needs
 
--- src/lib.rt:97:35
 slice-aggregate-put-amount : tie.Need-slice-aggregate-put-amount
 slice-aggregate-put-amount c = search needs
 
--- src/lib.rt:97:13
 put-amount-requires : tie.Need-put-amount-requires
 put-amount-requires c κs = search needs
 
--- src/lib.rt:99:30
 enum-known-form-3 : tie.Need-enum-known-form-3
 enum-known-form-3 c = search needs
 
--- src/lib.rt:100:17
 put-reg-requires-3 : tie.Need-put-reg-requires-3
 put-reg-requires-3 c κs = search needs
 
--- src/lib.rt:101:35
 slice-aggregate-put-amount-2 : tie.Need-slice-aggregate-put-amount-2
 slice-aggregate-put-amount-2 c = search needs
 
--- src/lib.rt:101:13
 put-amount-requires-2 : tie.Need-put-amount-requires-2
 put-amount-requires-2 c κs = search needs
 
--- src/lib.rt:103:23
 enum-known-form-4 : tie.Need-enum-known-form-4
 enum-known-form-4 c = search needs
 
--- src/lib.rt:104:40
 slice-aggregate-put-bytes : tie.Need-slice-aggregate-put-bytes
 slice-aggregate-put-bytes c = search needs
 
--- src/lib.rt:104:17
 put-bytes-requires : tie.Need-put-bytes-requires
 put-bytes-requires c κs = search needs
 
--- src/lib.rt:105:35
 slice-aggregate-put-amount-3 : tie.Need-slice-aggregate-put-amount-3
 slice-aggregate-put-amount-3 c = search needs
 
--- src/lib.rt:105:13
 put-amount-requires-3 : tie.Need-put-amount-requires-3
 put-amount-requires-3 c κs = search needs
 
--- src/lib.rt:107:25
 enum-known-form-5 : tie.Need-enum-known-form-5
 enum-known-form-5 c = search needs
 
--- src/lib.rt:108:40
 slice-aggregate-put-bytes-2 : tie.Need-slice-aggregate-put-bytes-2
 slice-aggregate-put-bytes-2 c = search needs
 
--- src/lib.rt:108:17
 put-bytes-requires-2 : tie.Need-put-bytes-requires-2
 put-bytes-requires-2 c κs = search needs
 
--- src/lib.rt:109:35
 slice-aggregate-put-amount-4 : tie.Need-slice-aggregate-put-amount-4
 slice-aggregate-put-amount-4 c = search needs
 
--- src/lib.rt:109:13
 put-amount-requires-4 : tie.Need-put-amount-requires-4
 put-amount-requires-4 c κs = search needs
 
--- src/lib.rt:111:26
 enum-known-form-6 : tie.Need-enum-known-form-6
 enum-known-form-6 c = search needs
 
--- src/lib.rt:112:40
 slice-aggregate-put-bytes-3 : tie.Need-slice-aggregate-put-bytes-3
 slice-aggregate-put-bytes-3 c = search needs
 
--- src/lib.rt:112:17
 put-bytes-requires-3 : tie.Need-put-bytes-requires-3
 put-bytes-requires-3 c κs = search needs
 
--- src/lib.rt:113:35
 slice-aggregate-put-amount-5 : tie.Need-slice-aggregate-put-amount-5
 slice-aggregate-put-amount-5 c = search needs
 
--- src/lib.rt:113:13
 put-amount-requires-5 : tie.Need-put-amount-requires-5
 put-amount-requires-5 c κs = search needs
 
--- src/lib.rt:90:1
 same-length : tie.Need-same-length
 same-length c = search needs
 
--- src/lib.rt:90:1
 returns : tie.Need-returns
 unfolding formText formOf
 returns c = rw (c .before .before .before .before .before .form .given .1) (c .before .before .put-reg .ensures)
 
--- src/lib.rt:90:1
 same-length-2 : tie.Need-same-length-2
 same-length-2 c = search needs
 
--- src/lib.rt:90:1
 returns-2 : tie.Need-returns-2
 unfolding formText formOf
 returns-2 c =
-    let f : SFits w64 (c .before .before .before .before .before .before .before .before .before .before .form2 .given .0 .1 .0) = search needs in
-    rw (c .before .before .before .before .before .before .before .before .before .before .form2 .given .1) (c .before .before .before .before .before .before .before .put-reg2 .ensures ⨾ put-as (c .before .before .put-amount .ensures) (ap (λ (z : ℤ). amount z (ascii " +")) (toZ-ofZ f)))
+    let k = c .before .before .before .before .before .before .before in
+    let form = k .before .before .before .form2 .given in
+    let f : SFits w64 (form .0 .1 .0) = search needs in
+    rw (form .1) (k .put-reg2 .ensures ⨾ put-as (c .before .before .put-amount .ensures) (ap (λ (z : ℤ). amount z (ascii " +")) (toZ-ofZ f)))
 
--- src/lib.rt:90:1
 same-length-3 : tie.Need-same-length-3
 same-length-3 c = search needs
 
--- src/lib.rt:90:1
 returns-3 : tie.Need-returns-3
 unfolding formText formOf
 returns-3 c =
-    let f : SFits w64 (c .before .before .before .before .before .before .before .before .before .before .form3 .given .0 .1 .0) = search needs in
-    rw (c .before .before .before .before .before .before .before .before .before .before .form3 .given .1) (c .before .before .before .before .before .before .before .put-reg3 .ensures ⨾ put-as (c .before .before .put-amount2 .ensures) (ap (λ (z : ℤ). amount z (ascii " + ^")) (toZ-ofZ f)))
+    let k = c .before .before .before .before .before .before .before in
+    let form = k .before .before .before .form3 .given in
+    let f : SFits w64 (form .0 .1 .0) = search needs in
+    rw (form .1) (k .put-reg3 .ensures ⨾ put-as (c .before .before .put-amount2 .ensures) (ap (λ (z : ℤ). amount z (ascii " + ^")) (toZ-ofZ f)))
 
--- src/lib.rt:90:1
 same-length-4 : tie.Need-same-length-4
 same-length-4 c = search needs
 
--- src/lib.rt:90:1
 returns-4 : tie.Need-returns-4
 unfolding formText formOf
 returns-4 c =
-    let f : SFits w64 (c .before .before .before .before .before .before .before .before .before .before .before .form4 .given .0 .0) = search needs in
-    rw (c .before .before .before .before .before .before .before .before .before .before .before .form4 .given .1) (c .before .before .before .before .before .before .before .put-bytes .ensures ⨾ put-as (c .before .before .put-amount3 .ensures) (ap (λ (z : ℤ). amount z (ascii " +")) (toZ-ofZ f)))
+    let k = c .before .before .before .before .before .before .before in
+    let form = k .before .before .before .before .form4 .given in
+    let f : SFits w64 (form .0 .0) = search needs in
+    rw (form .1) (k .put-bytes .ensures ⨾ put-as (c .before .before .put-amount3 .ensures) (ap (λ (z : ℤ). amount z (ascii " +")) (toZ-ofZ f)))
 
--- src/lib.rt:90:1
 same-length-5 : tie.Need-same-length-5
 same-length-5 c = search needs
 
--- src/lib.rt:90:1
 returns-5 : tie.Need-returns-5
 unfolding formText formOf
 returns-5 c =
-    let f : SFits w64 (c .before .before .before .before .before .before .before .before .before .before .before .form5 .given .0 .0) = search needs in
-    rw (c .before .before .before .before .before .before .before .before .before .before .before .form5 .given .1) (c .before .before .before .before .before .before .before .put-bytes2 .ensures ⨾ put-as (c .before .before .put-amount4 .ensures) (ap (λ (z : ℤ). amount z (ascii " + ^")) (toZ-ofZ f)))
+    let k = c .before .before .before .before .before .before .before in
+    let form = k .before .before .before .before .form5 .given in
+    let f : SFits w64 (form .0 .0) = search needs in
+    rw (form .1) (k .put-bytes2 .ensures ⨾ put-as (c .before .before .put-amount4 .ensures) (ap (λ (z : ℤ). amount z (ascii " + ^")) (toZ-ofZ f)))
 
--- src/lib.rt:90:1
 same-length-6 : tie.Need-same-length-6
 same-length-6 c = search needs
 
--- src/lib.rt:90:1
 returns-6 : tie.Need-returns-6
 unfolding formText formOf
 returns-6 c =
-    let f : SFits w64 (c .before .before .before .before .before .before .before .before .before .before .before .form6 .given .0 .0) = search needs in
-    rw (c .before .before .before .before .before .before .before .before .before .before .before .form6 .given .1) (c .before .before .before .before .before .before .before .put-bytes3 .ensures ⨾ put-as (c .before .before .put-amount5 .ensures) (ap (λ (z : ℤ). amount z (ascii " - ^")) (toZ-ofZ f)))
+    let k = c .before .before .before .before .before .before .before in
+    let form = k .before .before .before .before .form6 .given in
+    let f : SFits w64 (form .0 .0) = search needs in
+    rw (form .1) (k .put-bytes3 .ensures ⨾ put-as (c .before .before .put-amount5 .ensures) (ap (λ (z : ℤ). amount z (ascii " - ^")) (toZ-ofZ f)))
 
 pub put-form-spec : {M : Type 1} → statement M
 put-form-spec =

@@ -1,83 +1,60 @@
+-- `put_reg`: by the cases of `Reg`, one put each.
 use Rattle.lines.specs.Rules.{regName}
-use native.Mathlib.Omega.{arith}
 use borrow.Author.Needs.{needs}
 use Rattle.lines.proofs.put_reg.Statement.{statement}
 use Rattle.lines.proofs.put_reg.Tie as tie
-use Rattle.lines.proofs.put_reg.Reads as reads
-use Rattle.lines.proofs.put_reg.Lts as lts
-use Rattle.names.proofs.put_arm64_name.Reads as put-arm64-name-reads
-use Rattle.names.proofs.put_cfi_name.Reads as put-cfi-name-reads
-use Rattle.names.proofs.put_pe_name.Reads as put-pe-name-reads
-use Rattle.text.proofs.put_bytes.Reads as put-bytes-reads
 
--- src/lib.rt:64:30
 enum-told : tie.Need-enum-told
 enum-told c = search needs
 
--- src/lib.rt:64:39
 slice-aggregate-put-bytes : tie.Need-slice-aggregate-put-bytes
 slice-aggregate-put-bytes c = search needs
 
--- src/lib.rt:64:20
 put-bytes-requires : tie.Need-put-bytes-requires
 put-bytes-requires c κs = search needs
 
--- src/lib.rt:65:17
 enum-known-reg : tie.Need-enum-known-reg
 enum-known-reg c = search needs
 
--- src/lib.rt:65:30
 put-pe-name-requires : tie.Need-put-pe-name-requires
 put-pe-name-requires c κs = search needs
 
--- src/lib.rt:66:18
 enum-known-reg-2 : tie.Need-enum-known-reg-2
 enum-known-reg-2 c = search needs
 
--- src/lib.rt:66:39
 put-cfi-name-requires : tie.Need-put-cfi-name-requires
 put-cfi-name-requires c κs = search needs
 
--- src/lib.rt:67:20
 enum-known-reg-3 : tie.Need-enum-known-reg-3
 enum-known-reg-3 c = search needs
 
--- src/lib.rt:67:41
 put-arm64-name-requires : tie.Need-put-arm64-name-requires
 put-arm64-name-requires c κs = search needs
 
--- src/lib.rt:60:1
 same-length : tie.Need-same-length
 same-length c = search needs
 
--- src/lib.rt:60:1
 returns : tie.Need-returns
 unfolding regName
 returns c = rw (c .before .before .before .before .before .enum-told .given .1) (c .before .before .put-bytes .ensures)
 
--- src/lib.rt:60:1
 same-length-2 : tie.Need-same-length-2
 same-length-2 c = search needs
 
--- src/lib.rt:60:1
 returns-2 : tie.Need-returns-2
 unfolding regName
 returns-2 c = rw (c .before .before .before .before .before .reg .given .1) (c .before .before .put-pe-name .ensures)
 
--- src/lib.rt:60:1
 same-length-3 : tie.Need-same-length-3
 same-length-3 c = search needs
 
--- src/lib.rt:60:1
 returns-3 : tie.Need-returns-3
 unfolding regName
 returns-3 c = rw (c .before .before .before .before .before .reg2 .given .1) (c .before .before .put-cfi-name .ensures)
 
--- src/lib.rt:60:1
 same-length-4 : tie.Need-same-length-4
 same-length-4 c = search needs
 
--- src/lib.rt:60:1
 returns-4 : tie.Need-returns-4
 unfolding regName
 returns-4 c = rw (c .before .before .before .before .before .reg3 .given .1) (c .before .before .put-arm64-name .ensures)

@@ -1,23 +1,17 @@
+-- `pe_register_name`: the table holds the names of its list, by the computed test of `Tables`.
 use Rattle.names.specs.Names.{peName, pe-x64}
 use Rattle.names.specs.Table.{lengthAt, nameAt}
 use Rattle.names.proofs.Tables.{table-holds}
-use native.Mathlib.Omega.{arith}
 use borrow.Author.Needs.{needs}
 use Rattle.names.proofs.pe_register_name.Statement.{statement}
 use Rattle.names.proofs.pe_register_name.Tie as tie
-use Rattle.names.proofs.pe_register_name.Reads as reads
-use Rattle.names.proofs.pe_register_name.Lts as lts
-use Rattle.names.proofs.entry.Reads as entry-reads
 
--- src/lib.rt:166:11
 slice-aggregate-entry : tie.Need-slice-aggregate-entry
 slice-aggregate-entry c = search needs
 
--- src/lib.rt:166:5
 entry-requires : tie.Need-entry-requires
 entry-requires c κs = search needs
 
--- src/lib.rt:163:1
 returns : tie.Need-returns
 unfolding peName pe-x64 lengthAt nameAt
 returns c = table-holds pe-x64 tt (c .before .before .args .register) (c .entry .ensures)

@@ -1,3 +1,4 @@
+-- `put_digits`, by recursion: the number falls with each division; one digit, or the digits in front and one more.
 use native.Mathlib.Omega.{arith}
 use native.Mathlib.Nat.{mod-lt, div-lt-self}
 use borrow.Author.Needs.{needs}
@@ -24,136 +25,55 @@ abbrev put-digits-below : ℕ → In 1 put-digits-kinds.ps
 put-digits-below t =
     and 1 put-digits-kinds.ps (falls 1 put-digits-kinds.ps _<_ μ-put-digits t) put-digits.Pre
 
--- src/lib.rt:48:34
-put-digits-digit-of-requires : (t : ℕ) → put-digits-lts.Need-digit-of-requires (
-  digit-of-reads.Asked,
-  digit-of-reads.Learnt,
-  put-byte-reads.Asked,
-  put-byte-reads.Learnt,
-  put-digits-below t,
-  put-digits.Post,
-) (put-digits-at t) put-digits.Post
+-- what the calls ask and tell, the recursive one of a smaller number
+abbrev told : ℕ → put-digits-lts.Claims
+told t =
+    (digit-of-reads.Asked, digit-of-reads.Learnt, put-byte-reads.Asked, put-byte-reads.Learnt, put-digits-below t, put-digits.Post)
+
+put-digits-digit-of-requires : (t : ℕ) → put-digits-lts.Need-digit-of-requires (told t) (put-digits-at t) put-digits.Post
 put-digits-digit-of-requires t c κs = search needs
 
--- src/lib.rt:48:9
-put-digits-put-byte-requires : (t : ℕ) → put-digits-lts.Need-put-byte-requires (
-  digit-of-reads.Asked,
-  digit-of-reads.Learnt,
-  put-byte-reads.Asked,
-  put-byte-reads.Learnt,
-  put-digits-below t,
-  put-digits.Post,
-) (put-digits-at t) put-digits.Post
+put-digits-put-byte-requires : (t : ℕ) → put-digits-lts.Need-put-byte-requires (told t) (put-digits-at t) put-digits.Post
 put-digits-put-byte-requires t c κs = search needs
 
--- src/lib.rt:48:9
-put-digits-same-length : (t : ℕ) → put-digits-lts.Need-same-length (
-  digit-of-reads.Asked,
-  digit-of-reads.Learnt,
-  put-byte-reads.Asked,
-  put-byte-reads.Learnt,
-  put-digits-below t,
-  put-digits.Post,
-) (put-digits-at t) put-digits.Post
+put-digits-same-length : (t : ℕ) → put-digits-lts.Need-same-length (told t) (put-digits-at t) put-digits.Post
 put-digits-same-length t c = search needs
 
--- src/lib.rt:48:9
-put-digits-returns : (t : ℕ) → put-digits-lts.Need-returns (
-  digit-of-reads.Asked,
-  digit-of-reads.Learnt,
-  put-byte-reads.Asked,
-  put-byte-reads.Learnt,
-  put-digits-below t,
-  put-digits.Post,
-) (put-digits-at t) put-digits.Post
-put-digits-returns t c = search (put-digit, needs)
+put-digits-returns : (t : ℕ) → put-digits-lts.Need-returns (told t) (put-digits-at t) put-digits.Post
+put-digits-returns t c =
+    let a = c .before .before .before .before .before .before .before .args in
+    let h : a .x < a .base = omega arith in
+    search (put-digit, needs)
 
--- src/lib.rt:50:33
-put-digits-div-put-digits : (t : ℕ) → put-digits-lts.Need-div-put-digits (
-  digit-of-reads.Asked,
-  digit-of-reads.Learnt,
-  put-byte-reads.Asked,
-  put-byte-reads.Learnt,
-  put-digits-below t,
-  put-digits.Post,
-) (put-digits-at t) put-digits.Post
+put-digits-div-put-digits : (t : ℕ) → put-digits-lts.Need-div-put-digits (told t) (put-digits-at t) put-digits.Post
 put-digits-div-put-digits t c = search needs
 
--- src/lib.rt:50:9
-put-digits-put-digits-requires : (t : ℕ) → put-digits-lts.Need-put-digits-requires (
-  digit-of-reads.Asked,
-  digit-of-reads.Learnt,
-  put-byte-reads.Asked,
-  put-byte-reads.Learnt,
-  put-digits-below t,
-  put-digits.Post,
-) (put-digits-at t) put-digits.Post
-put-digits-put-digits-requires t c κs = (omega (arith, div-lt-self {n = c .before .before .before .args .x} {k = c .before .before .before .args .base} (omega arith) (omega arith)), omega arith)
+put-digits-put-digits-requires : (t : ℕ) → put-digits-lts.Need-put-digits-requires (told t) (put-digits-at t) put-digits.Post
+put-digits-put-digits-requires t c κs =
+    let a = c .before .before .before .args in
+    (omega (arith, div-lt-self {n = a .x} {k = a .base} (omega arith) (omega arith)), omega arith)
 
--- src/lib.rt:51:31
-put-digits-rem-digit-of : (t : ℕ) → put-digits-lts.Need-rem-digit-of (
-  digit-of-reads.Asked,
-  digit-of-reads.Learnt,
-  put-byte-reads.Asked,
-  put-byte-reads.Learnt,
-  put-digits-below t,
-  put-digits.Post,
-) (put-digits-at t) put-digits.Post
+put-digits-rem-digit-of : (t : ℕ) → put-digits-lts.Need-rem-digit-of (told t) (put-digits-at t) put-digits.Post
 put-digits-rem-digit-of t c = search needs
 
--- src/lib.rt:51:22
-put-digits-digit-of-requires-2 : (t : ℕ) → put-digits-lts.Need-digit-of-requires-2 (
-  digit-of-reads.Asked,
-  digit-of-reads.Learnt,
-  put-byte-reads.Asked,
-  put-byte-reads.Learnt,
-  put-digits-below t,
-  put-digits.Post,
-) (put-digits-at t) put-digits.Post
-put-digits-digit-of-requires-2 t c κs = omega (arith, mod-lt (c .before .before .before .before .before .before .before .args .x) {m = c .before .before .before .before .before .before .before .args .base} (omega arith))
+put-digits-digit-of-requires-2 : (t : ℕ) → put-digits-lts.Need-digit-of-requires-2 (told t) (put-digits-at t) put-digits.Post
+put-digits-digit-of-requires-2 t c κs =
+    let a = c .before .before .before .before .before .before .before .args in
+    omega (arith, mod-lt (a .x) {m = a .base} (omega arith))
 
--- src/lib.rt:51:5
-put-digits-put-byte-requires-2 : (t : ℕ) → put-digits-lts.Need-put-byte-requires-2 (
-  digit-of-reads.Asked,
-  digit-of-reads.Learnt,
-  put-byte-reads.Asked,
-  put-byte-reads.Learnt,
-  put-digits-below t,
-  put-digits.Post,
-) (put-digits-at t) put-digits.Post
+put-digits-put-byte-requires-2 : (t : ℕ) → put-digits-lts.Need-put-byte-requires-2 (told t) (put-digits-at t) put-digits.Post
 put-digits-put-byte-requires-2 t c κs = search needs
 
--- src/lib.rt:43:1
-put-digits-same-length-2 : (t : ℕ) → put-digits-lts.Need-same-length-2 (
-  digit-of-reads.Asked,
-  digit-of-reads.Learnt,
-  put-byte-reads.Asked,
-  put-byte-reads.Learnt,
-  put-digits-below t,
-  put-digits.Post,
-) (put-digits-at t) put-digits.Post
+put-digits-same-length-2 : (t : ℕ) → put-digits-lts.Need-same-length-2 (told t) (put-digits-at t) put-digits.Post
 put-digits-same-length-2 t c = search needs
 
--- src/lib.rt:43:1
-put-digits-returns-2 : (t : ℕ) → put-digits-lts.Need-returns-2 (
-  digit-of-reads.Asked,
-  digit-of-reads.Learnt,
-  put-byte-reads.Asked,
-  put-byte-reads.Learnt,
-  put-digits-below t,
-  put-digits.Post,
-) (put-digits-at t) put-digits.Post
+put-digits-returns-2 : (t : ℕ) → put-digits-lts.Need-returns-2 (told t) (put-digits-at t) put-digits.Post
 put-digits-returns-2 t c = search (more-digits, needs)
 
 pub +put-digits-spec : {M : Type 1} → statement M
-+put-digits-spec = close μ-put-digits λ t. put-digits-lts.spec (
-  digit-of-reads.Asked,
-  digit-of-reads.Learnt,
-  put-byte-reads.Asked,
-  put-byte-reads.Learnt,
-  put-digits-below t,
-  put-digits.Post,
-)
++put-digits-spec =
+    close μ-put-digits λ t. put-digits-lts.spec
+    (told t)
     (put-digits-at t)
     put-digits.Post
     (put-digits-digit-of-requires t)

@@ -1,38 +1,29 @@
+-- `digit_of`: by the two cases of `digit`.
 use Rattle.text.specs.Digits.{digit}
 use borrow.Author.Tests.{lt-ltb, le-ltb}
-use native.Mathlib.Omega.{arith}
 use borrow.Author.Needs.{needs}
 use Rattle.text.proofs.digit_of.Statement.{statement}
 use Rattle.text.proofs.digit_of.Tie as tie
-use Rattle.text.proofs.digit_of.Reads as reads
-use Rattle.text.proofs.digit_of.Lts as lts
 
--- src/lib.rt:51:24
 cast-result : tie.Need-cast-result
 cast-result c = search needs
 
--- src/lib.rt:51:17
 add-result : tie.Need-add-result
 add-result c = search needs
 
--- src/lib.rt:51:41
 sub-result : tie.Need-sub-result
 sub-result c = search needs
 
--- src/lib.rt:51:53
 cast-result-2 : tie.Need-cast-result-2
 cast-result-2 c = search needs
 
--- src/lib.rt:51:41
 add-result-2 : tie.Need-add-result-2
 add-result-2 c = search needs
 
--- src/lib.rt:47:1
 returns : tie.Need-returns
 unfolding digit
 returns c = rw (lt-ltb (c .before .args .n) 10 (c .if1 .taken))
 
--- src/lib.rt:47:1
 returns-2 : tie.Need-returns-2
 unfolding digit
 returns-2 c = rw (le-ltb (c .before .args .n) 10 (c .if1 .left))

@@ -1,12 +1,11 @@
-use mathlib.Core.Path.{_≡_, sym, ap, _∙_, subst}
+-- `magnitude`: by the sign; `Sign` says what the machine computes.
+use mathlib.Core.Path.{ap}
 use native.Mathlib.Omega.{arith}
-use lib.IntN.{ℤ, pos, natAbs}
+use lib.IntN.{natAbs}
 use Rattle.text.proofs.Sign.{Neg, Pos, negative, positive, neg-fits}
 use borrow.Author.Needs.{needs}
 use Rattle.text.proofs.magnitude.Statement.{statement}
 use Rattle.text.proofs.magnitude.Tie as tie
-use Rattle.text.proofs.magnitude.Reads as reads
-use Rattle.text.proofs.magnitude.Lts as lts
 
 nv : (c : tie.Then1) → Neg (c .before .args .x)
 nv c = negative (c .before .args .x) (c .before .fits .x) (c .if1 .taken)
@@ -14,31 +13,24 @@ nv c = negative (c .before .args .x) (c .before .fits .x) (c .if1 .taken)
 pv : (c : tie.Else1) → Pos (c .before .args .x)
 pv c = positive (c .before .args .x) (c .before .fits .x) (c .if1 .left)
 
--- src/lib.rt:89:19
 add-result : tie.Need-add-result
 add-result c = let g = nv c in rw (g .sum) (neg-fits (g .n) (g .small))
 
--- src/lib.rt:89:17
 sub-result : tie.Need-sub-result
 sub-result c = let g = nv c in rw (g .neg) (record { sfits = g .small })
 
--- src/lib.rt:89:16
 cast-result : tie.Need-cast-result
 cast-result c = let g = nv c in rw (g .back) (tt, record { fits = omega arith })
 
--- src/lib.rt:89:16
 add-result-2 : tie.Need-add-result-2
 add-result-2 c = let g = nv c in rw (g .back) (record { fits = omega arith })
 
--- src/lib.rt:89:47
 cast-result-2 : tie.Need-cast-result-2
 cast-result-2 c = let g = pv c in rw (g .back) (tt, record { fits = omega arith })
 
--- src/lib.rt:86:1
 returns : tie.Need-returns
 returns c = let g = nv c in rw (g .back) (omega (arith, ap natAbs (g .is)))
 
--- src/lib.rt:86:1
 returns-2 : tie.Need-returns-2
 returns-2 c = search needs
 

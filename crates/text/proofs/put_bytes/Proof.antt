@@ -1,3 +1,4 @@
+-- `put_bytes`: the loop has put the first i bytes of src.
 use mathlib.Core.Path.{_≡_, refl}
 use Prim.Native.Nat.{_≤_, _<_, _-_}
 use native.Mathlib.Omega.{arith}
@@ -9,9 +10,6 @@ use Rattle.text.specs.Text.{Put}
 use Rattle.text.specs.Text.Laws.{put-none, _⨾_}
 use Rattle.text.proofs.put_bytes.Statement.{statement}
 use Rattle.text.proofs.put_bytes.Tie as tie
-use Rattle.text.proofs.put_bytes.Reads as reads
-use Rattle.text.proofs.put_bytes.Lts as lts
-use Rattle.text.proofs.put_byte.Reads as put-byte-reads
 
 abbrev Inv-loop : tie.InvT-loop
 Inv-loop out₀ at src p₀ i₀ out p i = (i ≤ length src) × (length out ≡ length out₀) × Put out₀ at (take i src) out p
@@ -19,41 +17,36 @@ Inv-loop out₀ at src p₀ i₀ out p i = (i ≤ length src) × (length out ≡
 abbrev μ-loop : tie.MeasureT-loop
 μ-loop out₀ at src p₀ i₀ out p i = length src - i
 
--- src/lib.rt:28:5
 loop-holds : tie.Need-loop-holds Inv-loop μ-loop
 loop-holds c = (omega arith, refl, put-none (omega arith) (omega arith))
 
--- src/lib.rt:29:30
 shared-slice-read-put-byte : tie.Need-shared-slice-read-put-byte Inv-loop μ-loop
 shared-slice-read-put-byte c = search needs
 
--- src/lib.rt:29:9
 put-byte-requires : tie.Need-put-byte-requires Inv-loop μ-loop
 put-byte-requires c κs = search needs
 
--- src/lib.rt:30:9
 add-i : tie.Need-add-i Inv-loop μ-loop
 add-i c = search needs
 
--- src/lib.rt:28:5
 loop-less : tie.Need-loop-less Inv-loop μ-loop
 loop-less c = search needs
 
--- src/lib.rt:28:5
 loop-again : tie.Need-loop-again Inv-loop μ-loop
 loop-again c =
-    let l = c .before .before .before .before .before .before .loop in
-    let s = c .before .before .before .before .before .before .before .before .before .args .src .now in
+    let b = c .before .before .before .before .before .before in
+    let l = b .loop in
+    let s = b .before .before .before .args .src .now in
     let h : l .i < length s = omega arith in
     (omega arith, omega arith, rw (add-one, take-suc s (l .i) 0) (l .inv .2 ⨾ c .before .before .put-byte .ensures))
 
--- src/lib.rt:23:1
 same-length : tie.Need-same-length Inv-loop μ-loop
 same-length c = search needs
 
--- src/lib.rt:23:1
 returns : tie.Need-returns Inv-loop μ-loop
-returns c = let h : length (c .before .before .before .before .args .src .now) ≤ c .before .loop .i = omega arith in rw take-all at (c .before .loop .inv .2)
+returns c =
+    let h : length (c .before .before .before .before .args .src .now) ≤ c .before .loop .i = omega arith in
+    rw take-all at (c .before .loop .inv .2)
 
 pub put-bytes-spec : {M : Type 1} → statement M
 put-bytes-spec =

@@ -1,0 +1,46 @@
+-- `show_pe_names`: the register counts up to 256.
+use borrow.Author.Needs.{needs}
+use Prim.Native.Nat.{_-_, _≤_}
+use Rattle.leaves.proofs.show_pe_names.Statement.{statement}
+use Rattle.leaves.proofs.show_pe_names.Tie as tie
+
+abbrev Inv-loop : tie.InvT-loop
+Inv-loop register₀ register = register ≤ 256
+
+abbrev μ-loop : tie.MeasureT-loop
+μ-loop register₀ register = 256 - register
+
+loop-holds : tie.Need-loop-holds Inv-loop μ-loop
+loop-holds c = search needs
+
+show-pe-requires : tie.Need-show-pe-requires Inv-loop μ-loop
+show-pe-requires c κs = search needs
+
+add-register : tie.Need-add-register Inv-loop μ-loop
+add-register c = search needs
+
+loop-less : tie.Need-loop-less Inv-loop μ-loop
+loop-less c = search needs
+
+loop-again : tie.Need-loop-again Inv-loop μ-loop
+loop-again c = search needs
+
+show-pe-requires-2 : tie.Need-show-pe-requires-2 Inv-loop μ-loop
+show-pe-requires-2 c κs = search needs
+
+returns : tie.Need-returns Inv-loop μ-loop
+returns c = search needs
+
+pub show-pe-names-spec : {M : Type 1} → statement M
+show-pe-names-spec =
+    tie.close
+    (tie.spec
+    Inv-loop
+    μ-loop
+    loop-holds
+    show-pe-requires
+    add-register
+    loop-less
+    loop-again
+    show-pe-requires-2
+    returns)
