@@ -3,3 +3,4 @@ pub mod Rules
 pub mod Cut
 pub mod Read
 pub mod Worked
+pub mod Reach

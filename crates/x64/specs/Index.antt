@@ -7,14 +7,15 @@ use mathlib.Core.Bool.{Bool, true, false, cond, _&&_, _||_}
 use mathlib.Core.List.{List, [], _∷_, _++_, append-assoc}
 use borrow.Author.Tests.{le-leb, eqb-true}
 use lib.ListN.{length}
-use lib.IntN.{ℤ, pos, negsuc, subℕ}
+use lib.IntN.{pos, subℕ}
 use lib.Dec.{T, ltb, leb, eqb, ltb→lt, leb→le}
+use Rattle.lines.specs.Reach.{inside, difference-inside}
 use Rattle.text.specs.Tests.{below, and-l, and-r, both, all, all-append}
 use Rattle.entry.specs.declared.Judged.{Judged}
 use Rattle.entry.specs.declared.Judged.the-variants.{Refuse, Skip, Write}
 use Rattle.x64.specs.declared.Op.{Op}
 use Rattle.x64.specs.declared.Op.the-variants.{PushNonVolatile, Alloc, SaveRsp, SaveFp, SetFpRegister, PushMachineFrame, Other, Undecodable}
-use Rattle.x64.specs.X64.{word, opOf, stored, infos, backwards, inOrder, infoCount, chain, growthOf, valueOf, run, total, opFits, opsFit, infoFits, infosFit, x64Layout, undecodableOps, undecodableInfos, inside, printed, inReach, setCount, x64Reach, x64Skipped, x64Judged}
+use Rattle.x64.specs.X64.{word, opOf, stored, infos, backwards, inOrder, infoCount, chain, growthOf, valueOf, run, total, opFits, opsFit, infoFits, infosFit, x64Layout, undecodableOps, undecodableInfos, printed, inReach, setCount, x64Reach, x64Skipped, x64Judged}
 
 -- ---- operations
 
@@ -185,14 +186,6 @@ offsetOk (SetFpRegister f o) = leb o 240
 offsetOk (PushMachineFrame code) = true
 offsetOk Other = true
 offsetOk Undecodable = true
-
-difference-inside : (a b : ℕ) → a < 2 ^ 31 → b < 2 ^ 31 → inside (subℕ a b) ≡ true
-unfolding inside
-difference-inside a b h k = go (ltb a b)
-  where
-    go : (t : Bool) → inside (cond t (negsuc (b - suc a)) (pos (a - b))) ≡ true
-    go true = below (b - suc a) (2 ^ 31) (omega arith)
-    go false = below (a - b) (2 ^ 31) (omega arith)
 
 places-inside : (S : ℕ) (o : Op) → S < 2 ^ 31 → T (offsetOk o) → valueOf o < 2 ^ 31 → S + growthOf o < 2 ^ 31 → all inside (printed S o) ≡ true
 unfolding printed valueOf growthOf offsetOk inside

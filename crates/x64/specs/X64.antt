@@ -4,7 +4,7 @@ use Prim.Native.Nat.{ℕ, zero, suc, min, _+_, _-_, _*_, _^_}
 use mathlib.Core.Bool.{Bool, true, false, cond, _&&_, _||_}
 use mathlib.Core.List.{List, [], _∷_, _++_}
 use lib.ListN.{length, getD}
-use lib.IntN.{ℤ, pos, negsuc, subℕ}
+use lib.IntN.{ℤ, pos, subℕ}
 use lib.Dec.{ltb, leb, eqb}
 use Rattle.text.specs.Text.{ascii}
 use Rattle.text.specs.Tests.{all}
@@ -14,6 +14,7 @@ use Rattle.entry.specs.declared.Last.{Last}
 use Rattle.entry.specs.Entry.{Entry, comesTo}
 use Rattle.x64.specs.declared.Op.{Op}
 use Rattle.x64.specs.declared.Op.the-variants.{PushNonVolatile, Alloc, SaveRsp, SaveFp, SetFpRegister, PushMachineFrame, Other, Undecodable}
+use Rattle.lines.specs.Reach.{inside}
 use Rattle.entry.specs.declared.Judged.{Judged}
 use Rattle.entry.specs.declared.Judged.the-variants.{Refuse, Skip, Write}
 
@@ -181,11 +182,6 @@ x64Skipped limit ws =
     allZero (word ws 0) (word ws 1) (word ws 2) || (ltb (word ws 1) (word ws 0) || undecodableInfos ws (min limit (infoCount ws)) 4)
 
 -- ---- refusals 5, 6 and 7
-
--- inside signed 32 bits
-unfoldable pub inside : ℤ → Bool
-inside (pos n) = ltb n (2 ^ 31)
-inside (negsuc n) = ltb n (2 ^ 31)
 
 -- the places that an operation prints
 unfoldable pub printed : ℕ → Op → List ℤ

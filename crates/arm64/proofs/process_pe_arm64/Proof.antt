@@ -1,0 +1,80 @@
+use mathlib.Core.Path.{refl, sym, ap, _∙_}
+use mathlib.Core.Bool.{true}
+use mathlib.Core.List.{List}
+use Rattle.text.specs.Text.Laws.{put-none, put-as}
+use Rattle.lines.specs.Lines.{render}
+use Rattle.arm64.specs.declared.Op.{Op}
+use Rattle.arm64.specs.Arm64.{word, opCount, startEncoder, run, armText, armEntry}
+use Rattle.arm64.specs.Index.{opsRun, ops-run, first-end-few, layout-few, written}
+use native.Mathlib.Omega.{arith}
+use borrow.Author.Needs.{needs}
+use Rattle.arm64.proofs.process_pe_arm64.Statement.{statement}
+use Rattle.arm64.proofs.process_pe_arm64.Tie as tie
+use Rattle.arm64.proofs.process_pe_arm64.Reads as reads
+use Rattle.arm64.proofs.process_pe_arm64.Lts as lts
+use Rattle.arm64.proofs.first_end.Reads as first-end-reads
+use Rattle.arm64.proofs.judge.Reads as judge-reads
+use Rattle.arm64.proofs.put_lines.Reads as put-lines-reads
+
+-- src/lib.rt:641:9
+judge-requires : tie.Need-judge-requires
+judge-requires c κs = search needs
+
+-- src/lib.rt:643:24
+enum-known-judged : tie.Need-enum-known-judged
+enum-known-judged c = search needs
+
+-- src/lib.rt:644:25
+enum-told : tie.Need-enum-told
+enum-told c = search needs
+
+-- src/lib.rt:650:31
+enum-told-2 : tie.Need-enum-told-2
+enum-told-2 c = search needs
+
+-- src/lib.rt:650:46
+first-end-requires : tie.Need-first-end-requires
+first-end-requires c κs = layout-few (c .before .before .before .before .before .before .args .body .now) ((written (c .before .before .before .before .before .before .args .body .now) (sym (c .before .before .before .judge .ensures) ∙ c .before .enum-told2 .given .1)) .0)
+
+-- src/lib.rt:650:17
+put-lines-requires : tie.Need-put-lines-requires
+put-lines-requires c κs = (omega (arith, c .first-end .ensures, first-end-few (c .before .before .before .before .before .before .before .args .body .now) 3 (opCount (c .before .before .before .before .before .before .before .args .body .now)), layout-few (c .before .before .before .before .before .before .before .args .body .now) ((written (c .before .before .before .before .before .before .before .args .body .now) (sym (c .before .before .before .before .judge .ensures) ∙ c .before .before .enum-told2 .given .1)) .0)), rw (c .first-end .ensures, ← ops-run (c .before .before .before .before .before .before .before .args .body .now)) ((written (c .before .before .before .before .before .before .before .args .body .now) (sym (c .before .before .before .before .judge .ensures) ∙ c .before .before .enum-told2 .given .1)) .1))
+
+-- src/lib.rt:638:1
+returns : tie.Need-returns
+unfolding armEntry
+returns c = rw (← c .before .before .before .judge .ensures, c .before .judged .given .1) (record { number-is = refl; next-is = refl; put = put-none (omega arith) (omega arith) })
+
+-- src/lib.rt:638:1
+returns-2 : tie.Need-returns-2
+unfolding armEntry
+returns-2 c = rw (← c .before .before .judge .ensures, c .enum-told .given .1) (record { number-is = refl; next-is = refl; put = put-none (omega arith) (omega arith) })
+
+-- src/lib.rt:638:1
+same-length : tie.Need-same-length
+same-length c = search needs
+
+-- src/lib.rt:638:1
+returns-3 : tie.Need-returns-3
+unfolding armEntry armText
+returns-3 c = 
+    rw (← c .before .before .before .before .before .before .before .judge .ensures, c .before .before .before .before .before .enum-told2 .given .1) (record {
+      number-is = refl;
+      next-is = refl;
+      put = put-as (c .before .before .put-lines .ensures) (ap (λ (os : List Op). render true (run (word (c .before .before .before .before .before .before .before .before .before .before .args .body .now) 0) (word (c .before .before .before .before .before .before .before .before .before .before .args .body .now) 1) 0 startEncoder os)) (ap (opsRun (c .before .before .before .before .before .before .before .before .before .before .args .body .now) 3) (c .before .before .before .first-end .ensures) ∙ sym (ops-run (c .before .before .before .before .before .before .before .before .before .before .args .body .now))));
+    })
+
+pub process-pe-arm64-spec : {M : Type 1} → statement M
+process-pe-arm64-spec =
+    tie.close
+    (tie.spec
+    judge-requires
+    enum-known-judged
+    enum-told
+    enum-told-2
+    first-end-requires
+    put-lines-requires
+    returns
+    returns-2
+    same-length
+    returns-3)

@@ -1,0 +1,34 @@
+use Rattle.text.specs.Text.Laws.{put-none}
+use Rattle.text.specs.Digits.{Digits·open}
+use Rattle.names.specs.Names.{arm64Name, letterOf}
+use Rattle.lines.specs.Lines.{rulesText}
+use Rattle.lines.specs.Rules.{ruleOf, ruleName, regName, formOf}
+use Rattle.arm64.proofs.Rules.{put-one}
+use native.Mathlib.Omega.{arith}
+use borrow.Author.Needs.{needs}
+use Rattle.arm64.proofs.put_default_ra.Statement.{statement}
+use Rattle.arm64.proofs.put_default_ra.Tie as tie
+use Rattle.arm64.proofs.put_default_ra.Reads as reads
+use Rattle.arm64.proofs.put_default_ra.Lts as lts
+use Rattle.lines.proofs.put_rule.Reads as put-rule-reads
+
+-- src/lib.rt:478:9
+returns : tie.Need-returns
+unfolding rulesText
+returns c = rw (c .if1 .taken) (put-none (omega arith) (omega arith))
+
+-- src/lib.rt:483:5
+put-rule-requires : tie.Need-put-rule-requires
+put-rule-requires c κs = search needs
+
+-- src/lib.rt:474:1
+same-length : tie.Need-same-length
+same-length c = search needs
+
+-- src/lib.rt:474:1
+returns-2 : tie.Need-returns-2
+unfolding Digits·open arm64Name letterOf ruleOf ruleName regName formOf
+returns-2 c = rw (c .before .before .before .before .if1 .left) (put-one _ (c .before .before .put-rule .ensures))
+
+pub put-default-ra-spec : {M : Type 1} → statement M
+put-default-ra-spec = tie.close (tie.spec returns put-rule-requires same-length returns-2)

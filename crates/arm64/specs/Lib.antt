@@ -1,0 +1,2 @@
+pub mod Arm64
+pub mod Index
