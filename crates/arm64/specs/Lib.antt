@@ -1,2 +1,3 @@
 pub mod Arm64
 pub mod Index
+pub mod Sense

@@ -27,7 +27,7 @@ cast-n c = search needs
 
 -- src/lib.rt:584:5
 loop-holds : tie.Need-loop-holds Inv-loop μ-loop
-loop-holds c = 
+loop-holds c =
     let e : c .word .result - 0 ≡ opCount (c .before .before .args .body .now) = omega (arith, c .word .ensures) in
     (omega arith, omega (arith, c .word .ensures, c .before .before .pre), rw e (omega arith))
 
@@ -45,7 +45,7 @@ word-requires-2 c κs = search needs
 
 -- src/lib.rt:586:13
 returns : tie.Need-returns Inv-loop μ-loop
-returns c = 
+returns c =
     let e : firstEnd (c .before .before .before .before .before .before .args .body .now) (3 + 4 * c .before .before .before .loop .i) (c .before .before .before .before .word .result - c .before .before .before .loop .i) ≡ 0 = first-end-step (c .before .before .before .before .before .before .args .body .now) (c .before .before .before .loop .i) (c .before .before .before .before .word .result) (search needs) ∙ rw (eq-eqb (word (c .before .before .before .before .before .before .args .body .now) (3 + 4 * c .before .before .before .loop .i)) 9 (sym (c .before .word2 .ensures) ∙ c .if1 .taken)) in
     omega (arith, e, c .before .before .before .loop .inv .2)
 
@@ -59,15 +59,15 @@ loop-less c = search needs
 
 -- src/lib.rt:584:5
 loop-again : tie.Need-loop-again Inv-loop μ-loop
-loop-again c = 
+loop-again c =
     let e : firstEnd (c .before .before .before .before .before .before .args .body .now) (3 + 4 * c .before .before .before .loop .i) (c .before .before .before .before .word .result - c .before .before .before .loop .i) ≡ suc (firstEnd (c .before .before .before .before .before .before .args .body .now) (3 + 4 * (c .before .before .before .loop .i + 1)) (c .before .before .before .before .word .result - (c .before .before .before .loop .i + 1)))
-        = first-end-step (c .before .before .before .before .before .before .args .body .now) (c .before .before .before .loop .i) (c .before .before .before .before .word .result) (search needs) ∙ rw (ne-eqb (word (c .before .before .before .before .before .before .args .body .now) (3 + 4 * c .before .before .before .loop .i)) 9 (λ q. c .if1 .left (c .before .word2 .ensures ∙ q))) in
+    = first-end-step (c .before .before .before .before .before .before .args .body .now) (c .before .before .before .loop .i) (c .before .before .before .before .word .result) (search needs) ∙ rw (ne-eqb (word (c .before .before .before .before .before .before .args .body .now) (3 + 4 * c .before .before .before .loop .i)) 9 (λ q. c .if1 .left (c .before .word2 .ensures ∙ q))) in
     (omega arith, search needs, omega (arith, e, c .before .before .before .loop .inv .2))
 
 -- src/lib.rt:578:1
 returns-2 : tie.Need-returns-2 Inv-loop μ-loop
 unfolding firstEnd
-returns-2 c = 
+returns-2 c =
     let e : c .before .before .word .result - c .before .loop .i ≡ 0 = omega arith in
     omega (arith, rw e at (c .before .loop .inv .2))
 

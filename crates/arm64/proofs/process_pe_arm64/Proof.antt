@@ -57,7 +57,7 @@ same-length c = search needs
 -- src/lib.rt:638:1
 returns-3 : tie.Need-returns-3
 unfolding armEntry armText
-returns-3 c = 
+returns-3 c =
     rw (← c .before .before .before .before .before .before .before .judge .ensures, c .before .before .before .before .before .enum-told2 .given .1) (record {
       number-is = refl;
       next-is = refl;
