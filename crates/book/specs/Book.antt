@@ -30,7 +30,7 @@ firstBody n = 2 + 2 * n
 
 -- the kinds that are translated: 1 to this one
 abbrev pub KINDS : ℕ
-KINDS = 1
+KINDS = 2
 
 -- 2 to 16,384 words, a kind that is translated, at most 1,024 bodies, all contents pairs there
 unfoldable pub headerOk : List ℕ → Bool

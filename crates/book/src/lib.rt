@@ -6,7 +6,7 @@ ghost use lib.ListN.{length, getD};
 ghost use Rattle.book.specs.Book.{kind, count, startOf, sizeOf, firstBody, headerOk, bodiesOk, contentsOk};
 
 // The kinds that are translated: 1 to this one.
-const KINDS: u32 = 1;
+const KINDS: u32 = 2;
 
 const MOST_BODIES: usize = 1024;
 

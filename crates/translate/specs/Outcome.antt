@@ -4,17 +4,18 @@ use mathlib.Core.List.{List, [], _∷_, _++_}
 use mathlib.Core.Bool.{Bool, true, false, cond}
 use Prim.Native.Nat.{ℕ, zero, suc, _-_, _≤_}
 use lib.ListN.{length, drop, set, replicate}
-use lib.Dec.{ltb}
+use lib.Dec.{ltb, eqb}
 use Rattle.entry.specs.declared.Last.{Last}
 use Rattle.entry.specs.Entry.{Entry, noLast}
 use Rattle.book.specs.Book.{kind, bodies, contentsOk}
 use Rattle.x64.specs.X64.{x64Entry}
+use Rattle.arm64.specs.Arm64.{armEntry}
 use Rattle.translate.specs.declared.Returned.{Returned}
 pub mod Laws
 
 -- an entry, by the book's kind: 4, skipping, 5 to 7, its text, and what it leaves to the next
 unfoldable pub entryOf : ℕ → ℕ → Last → List ℕ → Entry
-entryOf kind limit last body = x64Entry limit last body
+entryOf kind limit last body = cond (eqb kind 2) (armEntry last body) (x64Entry limit last body)
 
 -- ---- the entries in turn
 

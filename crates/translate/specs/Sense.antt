@@ -8,7 +8,7 @@ use Prim.Native.Nat.{ℕ, zero, suc}
 use native.Mathlib.Omega.{arith}
 use lib.ListN.{length, take}
 use lib.Seq.{take-append-seam}
-use lib.Dec.{T, ltb}
+use lib.Dec.{T, ltb, eqb}
 use Rattle.text.specs.Tests.{all, all-append}
 use Rattle.lines.specs.Lines.{Line, lineOk, render}
 use Rattle.lines.specs.Lines.Laws.{render-append}
@@ -17,7 +17,10 @@ use Rattle.lines.specs.Read.Laws.{read-render, render-injective}
 use Rattle.entry.specs.declared.Last.{Last}
 use Rattle.entry.specs.Entry.{Entry, noLast}
 use Rattle.book.specs.Book.{kind, bodies, contentsOk}
+use Rattle.x64.specs.X64.{x64Entry}
 use Rattle.x64.specs.Sense.{x64Lines, x64-entry-text, x64-entry-ok}
+use Rattle.arm64.specs.Arm64.{armEntry}
+use Rattle.arm64.specs.Sense.{armLines, arm-entry-text, arm-entry-ok}
 use Rattle.translate.specs.declared.Returned.{Returned}
 use Rattle.translate.specs.Outcome.{AREA, MOST-LIMIT, entryOf, verdict, Walked, onward, walk, walkOf, Outcome, refused, ran, outcome, Called}
 
@@ -25,7 +28,7 @@ use Rattle.translate.specs.Outcome.{AREA, MOST-LIMIT, entryOf, verdict, 
 
 -- the lines of an entry, from its body's words; none where it is refused or skipped
 unfoldable pub linesOf : ℕ → ℕ → Last → List ℕ → List Line
-linesOf kind limit last body = x64Lines limit body
+linesOf kind limit last body = cond (eqb kind 2) (armLines body) (x64Lines limit body)
 
 unfoldable pub senseFrom : ℕ → ℕ → Last → List (List ℕ) → List Line
 senseFrom k l s [] = []
@@ -37,17 +40,25 @@ sense b l = senseFrom (kind b) l noLast (bodies b)
 
 -- whether a kind's later lines begin with six spaces
 unfoldable pub sixSpaces : ℕ → Bool
-sixSpaces kind = false
+sixSpaces kind = eqb kind 2
 
 -- ---- what each kind shows
 
 entry-text : (k l : ℕ) (s : Last) (b : List ℕ) → entryOf k l s b .text ≡ render (sixSpaces k) (linesOf k l s b)
 unfolding entryOf linesOf sixSpaces
-entry-text k l s b = x64-entry-text l s b
+entry-text k l s b = go (eqb k 2)
+  where
+    go : (t : Bool) → cond t (armEntry s b) (x64Entry l s b) .text ≡ render t (cond t (armLines b) (x64Lines l b))
+    go true = arm-entry-text s b
+    go false = x64-entry-text l s b
 
 entry-ok : (k l : ℕ) (s : Last) (b : List ℕ) → T (all lineOk (linesOf k l s b))
 unfolding linesOf
-entry-ok k l s b = x64-entry-ok l b
+entry-ok k l s b = go (eqb k 2)
+  where
+    go : (t : Bool) → T (all lineOk (cond t (armLines b) (x64Lines l b)))
+    go true = arm-entry-ok b
+    go false = x64-entry-ok l b
 
 -- ---- the text of a translated book is its sense, rendered
 

@@ -1,4 +1,4 @@
--- Document 01's starred specimens of x64 books, as one table: each is what `outcome` computes.
+-- Document 01's starred specimens, as one table: each is what `outcome` computes.
 use Prim.Native.Nat.{ℕ}
 use mathlib.Core.Bool.{Bool, true, false, _&&_}
 use mathlib.Core.List.{List, [], _∷_, _++_}
@@ -8,6 +8,7 @@ use Rattle.text.specs.Text.{ascii}
 use Rattle.text.specs.Tests.{all, eqw}
 use Rattle.book.specs.Book.{Book·open}
 use Rattle.x64.specs.X64.{X64·open}
+use Rattle.arm64.specs.Arm64.{Arm64·open}
 use Rattle.translate.specs.Outcome.{AREA, Outcome, entryOf, verdict, walk, walkOf, outcome}
 
 pub record Case : Type 0 where
@@ -20,6 +21,10 @@ pub record Case : Type 0 where
 -- a book of one function from 1000h to 1040h, of one info with these words (document 01's words 20480 and 1 before it)
 abbrev one : ℕ → List ℕ → List ℕ
 one n info = 1 ∷ 1 ∷ 4 ∷ n ∷ 4096 ∷ 4160 ∷ 20480 ∷ 1 ∷ info
+
+-- an ARM64 book of such a function, of one operation
+abbrev arm : List ℕ → List ℕ
+arm op = 2 ∷ 1 ∷ 4 ∷ 7 ∷ 4096 ∷ 64 ∷ 1 ∷ op
 
 pub cases : List Case
 cases =
@@ -73,6 +78,28 @@ cases =
     -- limit 0: the all-zero entry is skipped; begin 1 and end 2 give 5
     ∷ record { book = 1 ∷ 1 ∷ 4 ∷ 7 ∷ 0 ∷ 0 ∷ 0 ∷ 1 ∷ 0 ∷ 0 ∷ 0 ∷ []; limit = 0; number = 0; entries = 1; text = [] }
     ∷ record { book = 1 ∷ 1 ∷ 4 ∷ 7 ∷ 1 ∷ 2 ∷ 0 ∷ 1 ∷ 0 ∷ 0 ∷ 0 ∷ []; limit = 0; number = 5; entries = 0; text = [] }
+    -- ARM64: a lone other; a lone save-next; x29 and x30 pre-indexed by 16
+    ∷ record {
+      book = arm (8 ∷ 0 ∷ 0 ∷ 0 ∷ []);
+      limit = 32;
+      number = 0;
+      entries = 1;
+      text = ascii "STACK CFI INIT 1000 40 .cfa: .sp 0 + .ra: .x30\n";
+    }
+    ∷ record {
+      book = arm (7 ∷ 0 ∷ 0 ∷ 0 ∷ []);
+      limit = 32;
+      number = 0;
+      entries = 1;
+      text = ascii "STACK CFI INIT 1000 40 .x1: .cfa 8 + ^ .x2: .cfa 16 + ^ .cfa: .sp .ra: .x30\n";
+    }
+    ∷ record {
+      book = arm (5 ∷ 0 ∷ 29 ∷ 16 ∷ []);
+      limit = 32;
+      number = 0;
+      entries = 1;
+      text = ascii "STACK CFI INIT 1000 40 .cfa: .sp 16 + .x29: .cfa -16 + ^ .x30: .cfa -8 + ^ .ra: .cfa -8 + ^\n";
+    }
     ∷ []
 
 abbrev gives : Outcome → Case → Bool
@@ -83,5 +110,5 @@ abbrev passes : Case → Bool
 passes k = gives (outcome (k .book) (k .limit) (replicate AREA 7) (replicate 200 7)) k
 
 pub worked : T (all passes cases)
-unfolding cases Book·open X64·open entryOf verdict walk walkOf outcome
+unfolding cases Book·open X64·open Arm64·open entryOf verdict walk walkOf outcome
 worked = tt

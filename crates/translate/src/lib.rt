@@ -42,7 +42,10 @@ pub struct Next {
 fn process(kind: u32, limit: u32, last: Last, body: &[u32], out: &mut [u8], at: usize) -> Wrote
     ensures { λ r. ⌜ Processed (entryOf kind limit last (now (body .entry))) (now (out .entry)) at (now (out .exit)) r ⌝ }
 {
-    x64::process_pe(out, at, body, limit, last)
+    match kind {
+        2 => arm64::process_pe_arm64(out, at, body, last),
+        _ => x64::process_pe(out, at, body, limit, last),
+    }
 }
 
 // One entry through the work area into the text, behind the first `used` bytes of it.
