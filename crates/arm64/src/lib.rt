@@ -213,11 +213,12 @@ impl BreakpadEncoder {
         self
     }
 
-    fn save_one(mut self, first: Saved) -> BreakpadEncoder
-        ensures { λ r. ⌜ r ≡ single self first ⌝ }
+    // One register; save-next still goes on from the last pair.
+    fn save_one(mut self, saved: Saved) -> BreakpadEncoder
+        ensures { λ r. ⌜ r ≡ single self saved ⌝ }
     {
         self.one = true;
-        self.first = first;
+        self.first = saved;
         self.two = false;
         self
     }

@@ -1,5 +1,6 @@
+-- `first_end`: the count so far and what is left add up to the whole.
 use Prim.Native.Nat.{suc, _+_, _*_, _-_, _≤_}
-use mathlib.Core.Path.{_≡_, refl, sym, ap, _∙_}
+use mathlib.Core.Path.{_≡_, sym, _∙_}
 use borrow.Author.Tests.{eq-eqb, ne-eqb}
 use Rattle.arm64.specs.Arm64.{word, opCount}
 use Rattle.arm64.specs.Index.{firstEnd, first-end-step, counted}
@@ -7,9 +8,6 @@ use borrow.Author.Needs.{needs}
 use native.Mathlib.Omega.{arith}
 use Rattle.arm64.proofs.first_end.Statement.{statement}
 use Rattle.arm64.proofs.first_end.Tie as tie
-use Rattle.arm64.proofs.first_end.Reads as reads
-use Rattle.arm64.proofs.first_end.Lts as lts
-use Rattle.arm64.proofs.word.Reads as word-reads
 
 abbrev Inv-loop : tie.InvT-loop
 Inv-loop body n i₀ i = (i ≤ n) × (n ≤ 1024) × (i + firstEnd body (3 + 4 * i) (n - i) ≡ counted body)
@@ -17,54 +15,43 @@ Inv-loop body n i₀ i = (i ≤ n) × (n ≤ 1024) × (i + firstEnd body (3 + 4 
 abbrev μ-loop : tie.MeasureT-loop
 μ-loop body n i₀ i = n - i
 
--- src/lib.rt:582:13
 word-requires : tie.Need-word-requires Inv-loop μ-loop
 word-requires c κs = search needs
 
--- src/lib.rt:582:13
 cast-n : tie.Need-cast-n Inv-loop μ-loop
 cast-n c = search needs
 
--- src/lib.rt:584:5
 loop-holds : tie.Need-loop-holds Inv-loop μ-loop
 loop-holds c =
     let e : c .word .result - 0 ≡ opCount (c .before .before .args .body .now) = omega (arith, c .word .ensures) in
     (omega arith, omega (arith, c .word .ensures, c .before .before .pre), rw e (omega arith))
 
--- src/lib.rt:585:27
 mul-word : tie.Need-mul-word Inv-loop μ-loop
 mul-word c = search needs
 
--- src/lib.rt:585:23
 add-word : tie.Need-add-word Inv-loop μ-loop
 add-word c = search needs
 
--- src/lib.rt:585:12
 word-requires-2 : tie.Need-word-requires-2 Inv-loop μ-loop
 word-requires-2 c κs = search needs
 
--- src/lib.rt:586:13
 returns : tie.Need-returns Inv-loop μ-loop
 returns c =
     let e : firstEnd (c .before .before .before .before .before .before .args .body .now) (3 + 4 * c .before .before .before .loop .i) (c .before .before .before .before .word .result - c .before .before .before .loop .i) ≡ 0 = first-end-step (c .before .before .before .before .before .before .args .body .now) (c .before .before .before .loop .i) (c .before .before .before .before .word .result) (search needs) ∙ rw (eq-eqb (word (c .before .before .before .before .before .before .args .body .now) (3 + 4 * c .before .before .before .loop .i)) 9 (sym (c .before .word2 .ensures) ∙ c .if1 .taken)) in
     omega (arith, e, c .before .before .before .loop .inv .2)
 
--- src/lib.rt:588:9
 add-i : tie.Need-add-i Inv-loop μ-loop
 add-i c = search needs
 
--- src/lib.rt:584:5
 loop-less : tie.Need-loop-less Inv-loop μ-loop
 loop-less c = search needs
 
--- src/lib.rt:584:5
 loop-again : tie.Need-loop-again Inv-loop μ-loop
 loop-again c =
     let e : firstEnd (c .before .before .before .before .before .before .args .body .now) (3 + 4 * c .before .before .before .loop .i) (c .before .before .before .before .word .result - c .before .before .before .loop .i) ≡ suc (firstEnd (c .before .before .before .before .before .before .args .body .now) (3 + 4 * (c .before .before .before .loop .i + 1)) (c .before .before .before .before .word .result - (c .before .before .before .loop .i + 1)))
     = first-end-step (c .before .before .before .before .before .before .args .body .now) (c .before .before .before .loop .i) (c .before .before .before .before .word .result) (search needs) ∙ rw (ne-eqb (word (c .before .before .before .before .before .before .args .body .now) (3 + 4 * c .before .before .before .loop .i)) 9 (λ q. c .if1 .left (c .before .word2 .ensures ∙ q))) in
     (omega arith, search needs, omega (arith, e, c .before .before .before .loop .inv .2))
 
--- src/lib.rt:578:1
 returns-2 : tie.Need-returns-2 Inv-loop μ-loop
 unfolding firstEnd
 returns-2 c =

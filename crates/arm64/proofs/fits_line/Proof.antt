@@ -1,3 +1,4 @@
+-- `fits_line`: one test after the other.
 use Prim.Native.Nat.{_^_}
 use mathlib.Core.Path.{sym, _∙_}
 use borrow.Author.Tests.{lt-ltb, le-ltb, not-true, not-false}
@@ -7,39 +8,29 @@ use native.Mathlib.Omega.{arith}
 use borrow.Author.Needs.{needs}
 use Rattle.arm64.proofs.fits_line.Statement.{statement}
 use Rattle.arm64.proofs.fits_line.Tie as tie
-use Rattle.arm64.proofs.fits_line.Reads as reads
-use Rattle.arm64.proofs.fits_line.Lts as lts
-use Rattle.arm64.proofs.saved_fits.Reads as saved-fits-reads
 
--- src/lib.rt:366:9
 returns : tie.Need-returns
 unfolding fits
 returns c = rw (le-ltb (c .before .args .value) (2 ^ 31) (omega arith))
 
--- src/lib.rt:369:9
 returns-2 : tie.Need-returns-2
 unfolding fits inside
 returns-2 c = rw (lt-ltb (c .before .before .before .args .value) (2 ^ 31) (omega arith), le-ltb (c .before .before .before .args .e .«stack_size») (2 ^ 31) (omega arith))
 
--- src/lib.rt:371:9
 saved-fits-requires : tie.Need-saved-fits-requires
 saved-fits-requires c κs = search needs
 
--- src/lib.rt:372:9
 returns-3 : tie.Need-returns-3
 unfolding fits inside
 returns-3 c = rw (lt-ltb (c .before .before .before .before .before .args .value) (2 ^ 31) (omega arith), lt-ltb (c .before .before .before .before .before .args .e .«stack_size») (2 ^ 31) (omega arith), sym (c .before .saved-fits .ensures) ∙ not-true (c .before .saved-fits .result) (c .if3 .taken))
 
--- src/lib.rt:374:9
 saved-fits-requires-2 : tie.Need-saved-fits-requires-2
 saved-fits-requires-2 c κs = search needs
 
--- src/lib.rt:375:9
 returns-4 : tie.Need-returns-4
 unfolding fits inside
 returns-4 c = rw (lt-ltb (c .before .before .before .before .before .before .before .args .value) (2 ^ 31) (omega arith), lt-ltb (c .before .before .before .before .before .before .before .args .e .«stack_size») (2 ^ 31) (omega arith), sym (c .before .before .before .saved-fits .ensures) ∙ not-false (c .before .before .before .saved-fits .result) (c .before .before .if3 .left), sym (c .before .saved-fits2 .ensures) ∙ not-true (c .before .saved-fits2 .result) (c .if4 .taken))
 
--- src/lib.rt:362:1
 returns-5 : tie.Need-returns-5
 unfolding fits inside
 returns-5 c = rw (lt-ltb (c .before .before .before .before .before .before .before .args .value) (2 ^ 31) (omega arith), lt-ltb (c .before .before .before .before .before .before .before .args .e .«stack_size») (2 ^ 31) (omega arith), sym (c .before .before .before .saved-fits .ensures) ∙ not-false (c .before .before .before .saved-fits .result) (c .before .before .if3 .left), sym (c .before .saved-fits2 .ensures) ∙ not-false (c .before .saved-fits2 .result) (c .if4 .left))

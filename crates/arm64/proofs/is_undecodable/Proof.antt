@@ -1,5 +1,6 @@
+-- `is_undecodable`: what is left answers as all does.
 use Prim.Native.Nat.{_+_, _*_, _≤_}
-use mathlib.Core.Path.{_≡_, refl, sym, _∙_}
+use mathlib.Core.Path.{_≡_, sym, _∙_}
 use borrow.Author.Tests.{eq-eqb, ne-eqb}
 use Rattle.arm64.specs.Arm64.{word, opCount, undecodable}
 use Rattle.arm64.specs.Index.{undecodable-step}
@@ -7,9 +8,6 @@ use borrow.Author.Needs.{needs}
 use native.Mathlib.Omega.{arith}
 use Rattle.arm64.proofs.is_undecodable.Statement.{statement}
 use Rattle.arm64.proofs.is_undecodable.Tie as tie
-use Rattle.arm64.proofs.is_undecodable.Reads as reads
-use Rattle.arm64.proofs.is_undecodable.Lts as lts
-use Rattle.arm64.proofs.word.Reads as word-reads
 
 abbrev Inv-loop : tie.InvT-loop
 Inv-loop body a₀ k₀ a k = (a + 4 * k ≤ 4099) × (undecodable body a k ≡ undecodable body 3 (opCount body))
@@ -17,43 +15,33 @@ Inv-loop body a₀ k₀ a k = (a + 4 * k ≤ 4099) × (undecodable body a k ≡ 
 abbrev μ-loop : tie.MeasureT-loop
 μ-loop body a₀ k₀ a k = k
 
--- src/lib.rt:599:9
 word-requires : tie.Need-word-requires Inv-loop μ-loop
 word-requires c κs = search needs
 
--- src/lib.rt:600:5
 loop-holds : tie.Need-loop-holds Inv-loop μ-loop
 loop-holds c = (omega (arith, c .word .ensures, c .before .before .pre), rw (c .word .ensures))
 
--- src/lib.rt:601:13
 word-requires-2 : tie.Need-word-requires-2 Inv-loop μ-loop
 word-requires-2 c κs = search needs
 
--- src/lib.rt:603:13
 returns : tie.Need-returns Inv-loop μ-loop
 returns c = sym (sym (c .before .before .before .loop .inv .1) ∙ undecodable-step (c .before .before .before .before .before .before .args .body .now) (c .before .before .before .loop .a) (c .before .before .before .loop .k) (search needs) ∙ rw (eq-eqb (word (c .before .before .before .before .before .before .args .body .now) (c .before .before .before .loop .a)) 9 (sym (c .before .word2 .ensures) ∙ c .if1 .taken)))
 
--- src/lib.rt:606:13
 returns-2 : tie.Need-returns-2 Inv-loop μ-loop
 returns-2 c = sym (sym (c .before .before .before .before .loop .inv .1) ∙ undecodable-step (c .before .before .before .before .before .before .before .args .body .now) (c .before .before .before .before .loop .a) (c .before .before .before .before .loop .k) (search needs) ∙ rw (ne-eqb (word (c .before .before .before .before .before .before .before .args .body .now) (c .before .before .before .before .loop .a)) 9 (λ q. c .before .if1 .left (c .before .before .word2 .ensures ∙ q)), eq-eqb (word (c .before .before .before .before .before .before .before .args .body .now) (c .before .before .before .before .loop .a)) 10 (sym (c .before .before .word2 .ensures) ∙ c .if2 .taken)))
 
--- src/lib.rt:608:9
 add-a : tie.Need-add-a Inv-loop μ-loop
 add-a c = search needs
 
--- src/lib.rt:609:9
 sub-k : tie.Need-sub-k Inv-loop μ-loop
 sub-k c = search needs
 
--- src/lib.rt:600:5
 loop-less : tie.Need-loop-less Inv-loop μ-loop
 loop-less c = search needs
 
--- src/lib.rt:600:5
 loop-again : tie.Need-loop-again Inv-loop μ-loop
 loop-again c = (omega arith, sym (sym (c .before .before .before .before .loop .inv .1) ∙ undecodable-step (c .before .before .before .before .before .before .before .args .body .now) (c .before .before .before .before .loop .a) (c .before .before .before .before .loop .k) (search needs) ∙ rw (ne-eqb (word (c .before .before .before .before .before .before .before .args .body .now) (c .before .before .before .before .loop .a)) 9 (λ q. c .before .if1 .left (c .before .before .word2 .ensures ∙ q)), ne-eqb (word (c .before .before .before .before .before .before .before .args .body .now) (c .before .before .before .before .loop .a)) 10 (λ q. c .if2 .left (c .before .before .word2 .ensures ∙ q)))))
 
--- src/lib.rt:594:1
 returns-3 : tie.Need-returns-3 Inv-loop μ-loop
 unfolding undecodable
 returns-3 c = let e : c .before .loop .k ≡ 0 = omega arith in rw e at (c .before .loop .inv .1)

@@ -1,3 +1,4 @@
+-- `judge`: one test after the other.
 use mathlib.Core.Path.{_≡_, sym, _∙_}
 use mathlib.Core.Bool.{true, false}
 use borrow.Author.Tests.{not-true, not-false}
@@ -7,48 +8,35 @@ use native.Mathlib.Omega.{arith}
 use borrow.Author.Needs.{needs}
 use Rattle.arm64.proofs.judge.Statement.{statement}
 use Rattle.arm64.proofs.judge.Tie as tie
-use Rattle.arm64.proofs.judge.Reads as reads
-use Rattle.arm64.proofs.judge.Lts as lts
-use Rattle.arm64.proofs.first_end.Reads as first-end-reads
-use Rattle.arm64.proofs.is_undecodable.Reads as is-undecodable-reads
-use Rattle.arm64.proofs.layout.Reads as layout-reads
-use Rattle.arm64.proofs.reaches.Reads as reaches-reads
 
--- src/lib.rt:625:9
 layout-requires : tie.Need-layout-requires
 layout-requires c κs = search needs
 
--- src/lib.rt:626:9
 returns : tie.Need-returns
 unfolding armJudged
 returns c = rw (sym (c .before .layout .ensures) ∙ not-true (c .before .layout .result) (c .if1 .taken))
 
--- src/lib.rt:628:8
 is-undecodable-requires : tie.Need-is-undecodable-requires
 is-undecodable-requires c κs =
     let l : armLayout (c .before .before .before .args .body .now) ≡ true = sym (c .before .layout .ensures) ∙ not-false (c .before .layout .result) (c .if1 .left) in
     layout-few (c .before .before .before .args .body .now) (rw l tt)
 
--- src/lib.rt:629:9
 returns-2 : tie.Need-returns-2
 unfolding armJudged
 returns-2 c =
     let l : armLayout (c .before .before .before .before .before .args .body .now) ≡ true = sym (c .before .before .before .layout .ensures) ∙ not-false (c .before .before .before .layout .result) (c .before .before .if1 .left) in
     rw (l, sym (c .before .is-undecodable .ensures) ∙ c .if2 .taken)
 
--- src/lib.rt:631:22
 first-end-requires : tie.Need-first-end-requires
 first-end-requires c κs =
     let l : armLayout (c .before .before .before .before .before .args .body .now) ≡ true = sym (c .before .before .before .layout .ensures) ∙ not-false (c .before .before .before .layout .result) (c .before .before .if1 .left) in
     layout-few (c .before .before .before .before .before .args .body .now) (rw l tt)
 
--- src/lib.rt:631:8
 reaches-requires : tie.Need-reaches-requires
 reaches-requires c κs =
     let l : armLayout (c .before .before .before .before .before .before .args .body .now) ≡ true = sym (c .before .before .before .before .layout .ensures) ∙ not-false (c .before .before .before .before .layout .result) (c .before .before .before .if1 .left) in
     omega (arith, c .first-end .ensures, first-end-few (c .before .before .before .before .before .before .args .body .now) 3 (opCount (c .before .before .before .before .before .before .args .body .now)), layout-few (c .before .before .before .before .before .before .args .body .now) (rw l tt))
 
--- src/lib.rt:632:9
 returns-3 : tie.Need-returns-3
 unfolding armJudged
 returns-3 c =
@@ -56,7 +44,6 @@ returns-3 c =
     let r : inReach (word (c .before .before .before .before .before .before .before .before .args .body .now) 0) 0 startEncoder (ops (c .before .before .before .before .before .before .before .before .args .body .now)) ≡ true = rw (ops-run (c .before .before .before .before .before .before .before .before .args .body .now), ← c .before .before .first-end .ensures) (sym (c .before .reaches .ensures) ∙ c .if3 .taken) in
     rw (l, sym (c .before .before .before .before .is-undecodable .ensures) ∙ c .before .before .before .if2 .left, r)
 
--- src/lib.rt:622:1
 returns-4 : tie.Need-returns-4
 unfolding armJudged
 returns-4 c =

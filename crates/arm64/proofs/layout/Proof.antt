@@ -1,3 +1,4 @@
+-- `layout`: what is left fits as all does.
 use Prim.Native.Nat.{_+_, _*_, _≤_}
 use mathlib.Core.Path.{_≡_, sym, _∙_}
 use borrow.Author.Tests.{not-true, not-false, lt-leb}
@@ -7,10 +8,6 @@ use borrow.Author.Needs.{needs}
 use native.Mathlib.Omega.{arith}
 use Rattle.arm64.proofs.layout.Statement.{statement}
 use Rattle.arm64.proofs.layout.Tie as tie
-use Rattle.arm64.proofs.layout.Reads as reads
-use Rattle.arm64.proofs.layout.Lts as lts
-use Rattle.arm64.proofs.op_fits.Reads as op-fits-reads
-use Rattle.arm64.proofs.word.Reads as word-reads
 
 abbrev Inv-loop : tie.InvT-loop
 Inv-loop body n a₀ k₀ a k = (a + 4 * k ≤ 4099) × (opsFit body a k ≡ armLayout body)
@@ -18,56 +15,43 @@ Inv-loop body n a₀ k₀ a k = (a + 4 * k ≤ 4099) × (opsFit body a k ≡ arm
 abbrev μ-loop : tie.MeasureT-loop
 μ-loop body n a₀ k₀ a k = k
 
--- src/lib.rt:559:9
 word-requires : tie.Need-word-requires Inv-loop μ-loop
 word-requires c κs = search needs
 
--- src/lib.rt:561:9
 returns : tie.Need-returns Inv-loop μ-loop
 unfolding armLayout
 returns c = rw (lt-leb (opCount (c .before .before .before .args .body .now)) 1024 (omega (arith, c .before .word .ensures)))
 
--- src/lib.rt:565:5
 loop-holds : tie.Need-loop-holds Inv-loop μ-loop
 loop-holds c = (omega arith, rw (c .before .word .ensures) (layout-is (c .before .before .before .args .body .now) (omega (arith, c .before .word .ensures))))
 
--- src/lib.rt:566:21
 word-requires-2 : tie.Need-word-requires-2 Inv-loop μ-loop
 word-requires-2 c κs = search needs
 
--- src/lib.rt:566:47
 add-word : tie.Need-add-word Inv-loop μ-loop
 add-word c = search needs
 
--- src/lib.rt:566:36
 word-requires-3 : tie.Need-word-requires-3 Inv-loop μ-loop
 word-requires-3 c κs = search needs
 
--- src/lib.rt:566:13
 op-fits-requires : tie.Need-op-fits-requires Inv-loop μ-loop
 op-fits-requires c κs = search needs
 
--- src/lib.rt:567:13
 returns-2 : tie.Need-returns-2 Inv-loop μ-loop
 returns-2 c = and-no (opFits (word (c .before .before .before .before .before .before .before .before .before .args .body .now) (c .before .before .before .before .before .loop .a)) (word (c .before .before .before .before .before .before .before .before .before .args .body .now) (c .before .before .before .before .before .loop .a + 2))) _ (rw (c .before .before .before .word2 .ensures, c .before .before .word3 .ensures) at (sym (c .before .op-fits .ensures) ∙ not-true (c .before .op-fits .result) (c .if2 .taken))) ∙ sym (ops-fit-step (c .before .before .before .before .before .before .before .before .before .args .body .now) (c .before .before .before .before .before .loop .a) (c .before .before .before .before .before .loop .k) (search needs)) ∙ c .before .before .before .before .before .loop .inv .1
 
--- src/lib.rt:569:9
 add-a : tie.Need-add-a Inv-loop μ-loop
 add-a c = search needs
 
--- src/lib.rt:570:9
 sub-k : tie.Need-sub-k Inv-loop μ-loop
 sub-k c = search needs
 
--- src/lib.rt:565:5
 loop-less : tie.Need-loop-less Inv-loop μ-loop
 loop-less c = search needs
 
--- src/lib.rt:565:5
 loop-again : tie.Need-loop-again Inv-loop μ-loop
 loop-again c = (omega arith, and-yes (opFits (word (c .before .before .before .before .before .before .before .before .before .args .body .now) (c .before .before .before .before .before .loop .a)) (word (c .before .before .before .before .before .before .before .before .before .args .body .now) (c .before .before .before .before .before .loop .a + 2))) _ (rw (c .before .before .before .word2 .ensures, c .before .before .word3 .ensures) at (sym (c .before .op-fits .ensures) ∙ not-false (c .before .op-fits .result) (c .if2 .left))) ∙ sym (ops-fit-step (c .before .before .before .before .before .before .before .before .before .args .body .now) (c .before .before .before .before .before .loop .a) (c .before .before .before .before .before .loop .k) (search needs)) ∙ c .before .before .before .before .before .loop .inv .1)
 
--- src/lib.rt:556:1
 returns-3 : tie.Need-returns-3 Inv-loop μ-loop
 unfolding opsFit
 returns-3 c = let e : c .before .loop .k ≡ 0 = omega arith in rw e at (c .before .loop .inv .1)

@@ -1,46 +1,33 @@
+-- `op_at`: the four words are the definition's.
 use Rattle.arm64.specs.Index.{opAt}
-use native.Mathlib.Omega.{arith}
 use borrow.Author.Needs.{needs}
 use Rattle.arm64.proofs.op_at.Statement.{statement}
 use Rattle.arm64.proofs.op_at.Tie as tie
-use Rattle.arm64.proofs.op_at.Reads as reads
-use Rattle.arm64.proofs.op_at.Lts as lts
-use Rattle.arm64.proofs.op_of.Reads as op-of-reads
-use Rattle.arm64.proofs.word.Reads as word-reads
 
--- src/lib.rt:121:9
 word-requires : tie.Need-word-requires
 word-requires c κs = search needs
 
--- src/lib.rt:122:29
 add-word : tie.Need-add-word
 add-word c = search needs
 
--- src/lib.rt:122:9
 word-requires-2 : tie.Need-word-requires-2
 word-requires-2 c κs = search needs
 
--- src/lib.rt:123:31
 add-word-2 : tie.Need-add-word-2
 add-word-2 c = search needs
 
--- src/lib.rt:123:9
 word-requires-3 : tie.Need-word-requires-3
 word-requires-3 c κs = search needs
 
--- src/lib.rt:124:28
 add-word-3 : tie.Need-add-word-3
 add-word-3 c = search needs
 
--- src/lib.rt:124:9
 word-requires-4 : tie.Need-word-requires-4
 word-requires-4 c κs = search needs
 
--- src/lib.rt:125:5
 op-of-requires : tie.Need-op-of-requires
 op-of-requires c κs = search needs
 
--- src/lib.rt:117:1
 returns : tie.Need-returns
 unfolding opAt
 returns c = rw (← c .before .before .before .before .word .ensures, ← c .before .before .before .word2 .ensures, ← c .before .before .word3 .ensures, ← c .before .word4 .ensures) (c .op-of .ensures)

@@ -1,28 +1,22 @@
+-- `op_fits`: one test after the other.
 use borrow.Author.Tests.{le-leb, lt-leb}
 use Rattle.arm64.specs.Arm64.{opFits}
-use borrow.Author.Needs.{needs}
 use native.Mathlib.Omega.{arith}
 use Rattle.arm64.proofs.op_fits.Statement.{statement}
 use Rattle.arm64.proofs.op_fits.Tie as tie
-use Rattle.arm64.proofs.op_fits.Reads as reads
-use Rattle.arm64.proofs.op_fits.Lts as lts
 
--- src/lib.rt:544:9
 returns : tie.Need-returns
 unfolding opFits
 returns c = rw (lt-leb 2 (c .before .args .kind) (omega arith), lt-leb 1 (c .before .args .kind) (omega arith))
 
--- src/lib.rt:547:9
 returns-2 : tie.Need-returns-2
 unfolding opFits
 returns-2 c = rw (lt-leb 2 (c .before .before .args .kind) (omega arith), le-leb 1 (c .before .before .args .kind) (omega arith), le-leb (c .before .before .args .kind) 10 (omega arith))
 
--- src/lib.rt:550:9
 returns-3 : tie.Need-returns-3
 unfolding opFits
 returns-3 c = rw (le-leb 2 (c .before .before .before .args .kind) (omega arith), le-leb (c .before .before .before .args .kind) 6 (omega arith))
 
--- src/lib.rt:540:1
 returns-4 : tie.Need-returns-4
 unfolding opFits
 returns-4 c = rw (le-leb 2 (c .before .before .before .args .kind) (omega arith), lt-leb (c .before .before .before .args .kind) 6 (omega arith), le-leb 1 (c .before .before .before .args .kind) (omega arith))

@@ -1,3 +1,4 @@
+-- `process_pe_arm64`: one case for each judgement; a written entry keeps what `put_lines` requires.
 use mathlib.Core.Path.{refl, sym, ap, _∙_}
 use mathlib.Core.Bool.{true}
 use mathlib.Core.List.{List}
@@ -10,51 +11,36 @@ use native.Mathlib.Omega.{arith}
 use borrow.Author.Needs.{needs}
 use Rattle.arm64.proofs.process_pe_arm64.Statement.{statement}
 use Rattle.arm64.proofs.process_pe_arm64.Tie as tie
-use Rattle.arm64.proofs.process_pe_arm64.Reads as reads
-use Rattle.arm64.proofs.process_pe_arm64.Lts as lts
-use Rattle.arm64.proofs.first_end.Reads as first-end-reads
-use Rattle.arm64.proofs.judge.Reads as judge-reads
-use Rattle.arm64.proofs.put_lines.Reads as put-lines-reads
 
--- src/lib.rt:641:9
 judge-requires : tie.Need-judge-requires
 judge-requires c κs = search needs
 
--- src/lib.rt:643:24
 enum-known-judged : tie.Need-enum-known-judged
 enum-known-judged c = search needs
 
--- src/lib.rt:644:25
 enum-told : tie.Need-enum-told
 enum-told c = search needs
 
--- src/lib.rt:650:31
 enum-told-2 : tie.Need-enum-told-2
 enum-told-2 c = search needs
 
--- src/lib.rt:650:46
 first-end-requires : tie.Need-first-end-requires
 first-end-requires c κs = layout-few (c .before .before .before .before .before .before .args .body .now) ((written (c .before .before .before .before .before .before .args .body .now) (sym (c .before .before .before .judge .ensures) ∙ c .before .enum-told2 .given .1)) .0)
 
--- src/lib.rt:650:17
 put-lines-requires : tie.Need-put-lines-requires
 put-lines-requires c κs = (omega (arith, c .first-end .ensures, first-end-few (c .before .before .before .before .before .before .before .args .body .now) 3 (opCount (c .before .before .before .before .before .before .before .args .body .now)), layout-few (c .before .before .before .before .before .before .before .args .body .now) ((written (c .before .before .before .before .before .before .before .args .body .now) (sym (c .before .before .before .before .judge .ensures) ∙ c .before .before .enum-told2 .given .1)) .0)), rw (c .first-end .ensures, ← ops-run (c .before .before .before .before .before .before .before .args .body .now)) ((written (c .before .before .before .before .before .before .before .args .body .now) (sym (c .before .before .before .before .judge .ensures) ∙ c .before .before .enum-told2 .given .1)) .1))
 
--- src/lib.rt:638:1
 returns : tie.Need-returns
 unfolding armEntry
 returns c = rw (← c .before .before .before .judge .ensures, c .before .judged .given .1) (record { number-is = refl; next-is = refl; put = put-none (omega arith) (omega arith) })
 
--- src/lib.rt:638:1
 returns-2 : tie.Need-returns-2
 unfolding armEntry
 returns-2 c = rw (← c .before .before .judge .ensures, c .enum-told .given .1) (record { number-is = refl; next-is = refl; put = put-none (omega arith) (omega arith) })
 
--- src/lib.rt:638:1
 same-length : tie.Need-same-length
 same-length c = search needs
 
--- src/lib.rt:638:1
 returns-3 : tie.Need-returns-3
 unfolding armEntry armText
 returns-3 c =

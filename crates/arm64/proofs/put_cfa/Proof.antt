@@ -1,3 +1,4 @@
+-- `put_cfa`: by the flag; T is T - 0.
 use mathlib.Core.Path.{ap, _∙_}
 use lib.IntN.{ℤ}
 use mir.Syntax.{w64}
@@ -14,31 +15,22 @@ use native.Mathlib.Omega.{arith}
 use borrow.Author.Needs.{needs}
 use Rattle.arm64.proofs.put_cfa.Statement.{statement}
 use Rattle.arm64.proofs.put_cfa.Tie as tie
-use Rattle.arm64.proofs.put_cfa.Reads as reads
-use Rattle.arm64.proofs.put_cfa.Lts as lts
-use Rattle.lines.proofs.difference.Reads as difference-reads
-use Rattle.lines.proofs.put_rule.Reads as put-rule-reads
 
--- src/lib.rt:442:13
 difference-requires : tie.Need-difference-requires
 difference-requires c κs = search needs
 
--- src/lib.rt:446:9
 put-rule-requires : tie.Need-put-rule-requires
 put-rule-requires c κs = search needs
 
--- src/lib.rt:446:9
 same-length : tie.Need-same-length
 same-length c = search needs
 
--- src/lib.rt:446:9
 returns : tie.Need-returns
 unfolding cfaRule ruleOf ruleName regName formOf
 returns c =
     let f : SFits w64 (c .before .before .before .before .difference .result) = search needs in
     rw (c .before .before .before .before .before .if1 .taken) (put-one _ (put-as (c .before .before .put-rule .ensures) (ap (λ (z : ℤ). ruleText (rule cfa (registerPlus (ascii ".sp") z))) (toZ-ofZ f ∙ c .before .before .before .before .difference .ensures ∙ sub-none (c .before .before .before .before .before .before .before .args .total)))))
 
--- src/lib.rt:437:1
 returns-2 : tie.Need-returns-2
 unfolding rulesText
 returns-2 c = rw (c .if1 .left) (put-none (omega arith) (omega arith))

@@ -1,3 +1,4 @@
+-- `put_default_cfa`: by the flag.
 use Rattle.text.specs.Text.Laws.{put-none}
 use Rattle.lines.specs.Lines.{rulesText}
 use Rattle.lines.specs.Rules.{ruleOf, ruleName, regName, formOf}
@@ -6,24 +7,17 @@ use native.Mathlib.Omega.{arith}
 use borrow.Author.Needs.{needs}
 use Rattle.arm64.proofs.put_default_cfa.Statement.{statement}
 use Rattle.arm64.proofs.put_default_cfa.Tie as tie
-use Rattle.arm64.proofs.put_default_cfa.Reads as reads
-use Rattle.arm64.proofs.put_default_cfa.Lts as lts
-use Rattle.lines.proofs.put_rule.Reads as put-rule-reads
 
--- src/lib.rt:466:9
 returns : tie.Need-returns
 unfolding rulesText
 returns c = rw (c .if1 .taken) (put-none (omega arith) (omega arith))
 
--- src/lib.rt:471:5
 put-rule-requires : tie.Need-put-rule-requires
 put-rule-requires c κs = search needs
 
--- src/lib.rt:462:1
 same-length : tie.Need-same-length
 same-length c = search needs
 
--- src/lib.rt:462:1
 returns-2 : tie.Need-returns-2
 unfolding ruleOf ruleName regName formOf
 returns-2 c = rw (c .before .before .before .before .if1 .left) (put-one _ (c .before .before .put-rule .ensures))

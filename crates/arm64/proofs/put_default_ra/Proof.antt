@@ -1,3 +1,4 @@
+-- `put_default_ra`: by the flag; the name computes.
 use Rattle.text.specs.Text.Laws.{put-none}
 use Rattle.text.specs.Digits.{Digits·open}
 use Rattle.names.specs.Names.{arm64Name, letterOf}
@@ -8,24 +9,17 @@ use native.Mathlib.Omega.{arith}
 use borrow.Author.Needs.{needs}
 use Rattle.arm64.proofs.put_default_ra.Statement.{statement}
 use Rattle.arm64.proofs.put_default_ra.Tie as tie
-use Rattle.arm64.proofs.put_default_ra.Reads as reads
-use Rattle.arm64.proofs.put_default_ra.Lts as lts
-use Rattle.lines.proofs.put_rule.Reads as put-rule-reads
 
--- src/lib.rt:478:9
 returns : tie.Need-returns
 unfolding rulesText
 returns c = rw (c .if1 .taken) (put-none (omega arith) (omega arith))
 
--- src/lib.rt:483:5
 put-rule-requires : tie.Need-put-rule-requires
 put-rule-requires c κs = search needs
 
--- src/lib.rt:474:1
 same-length : tie.Need-same-length
 same-length c = search needs
 
--- src/lib.rt:474:1
 returns-2 : tie.Need-returns-2
 unfolding Digits·open arm64Name letterOf ruleOf ruleName regName formOf
 returns-2 c = rw (c .before .before .before .before .if1 .left) (put-one _ (c .before .before .put-rule .ensures))

@@ -1,3 +1,4 @@
+-- `put_lines`: what is left to put is the lines of the operations left (`LinesLeft`).
 use mathlib.Core.Bool.{true}
 use Rattle.text.specs.Text.Laws.{left-all, put-length}
 use Rattle.lines.specs.Lines.{render}
@@ -8,13 +9,6 @@ use borrow.Author.Needs.{needs}
 use native.Mathlib.Omega.{arith}
 use Rattle.arm64.proofs.put_lines.Statement.{statement}
 use Rattle.arm64.proofs.put_lines.Tie as tie
-use Rattle.arm64.proofs.put_lines.Reads as reads
-use Rattle.arm64.proofs.put_lines.Lts as lts
-use Rattle.arm64.proofs.BreakpadEncoder.new.Reads as new-reads
-use Rattle.arm64.proofs.BreakpadEncoder.step.Reads as step-reads
-use Rattle.arm64.proofs.op_at.Reads as op-at-reads
-use Rattle.arm64.proofs.put_line.Reads as put-line-reads
-use Rattle.arm64.proofs.word.Reads as word-reads
 
 abbrev Inv-loop : tie.InvT-loop
 Inv-loop out₀ at body n address size e₀ p₀ i₀ k₀ out e p i k = LinesLeft body (word body 0) (word body 1) out₀ at (render true (run (word body 0) (word body 1) 0 startEncoder (opsRun body 3 n))) out p e i k
@@ -22,63 +16,48 @@ Inv-loop out₀ at body n address size e₀ p₀ i₀ k₀ out e p i k = LinesLe
 abbrev μ-loop : tie.MeasureT-loop
 μ-loop out₀ at body n address size e₀ p₀ i₀ k₀ out e p i k = k
 
--- src/lib.rt:522:9
 word-requires : tie.Need-word-requires Inv-loop μ-loop
 word-requires c κs = search needs
 
--- src/lib.rt:523:9
 word-requires-2 : tie.Need-word-requires-2 Inv-loop μ-loop
 word-requires-2 c κs = search needs
 
--- src/lib.rt:524:9
 new-requires : tie.Need-new-requires Inv-loop μ-loop
 new-requires c κs = search needs
 
--- src/lib.rt:528:5
 loop-holds : tie.Need-loop-holds Inv-loop μ-loop
 loop-holds c = rw (c .new .ensures) (record { small = small-start; few = omega arith; reach = c .before .before .before .before .before .pre .1; text = left-all (omega arith) (omega arith) })
 
--- src/lib.rt:529:9
 sub-k : tie.Need-sub-k Inv-loop μ-loop
 sub-k c = search needs
 
--- src/lib.rt:530:34
 mul-op-at : tie.Need-mul-op-at Inv-loop μ-loop
 mul-op-at c = search needs
 
--- src/lib.rt:530:30
 add-op-at : tie.Need-add-op-at Inv-loop μ-loop
 add-op-at c = search needs
 
--- src/lib.rt:530:13
 op-at-requires : tie.Need-op-at-requires Inv-loop μ-loop
 op-at-requires c κs = search needs
 
--- src/lib.rt:531:9
 step-requires : tie.Need-step-requires Inv-loop μ-loop
 step-requires c κs = c .before .before .loop .inv .small
 
--- src/lib.rt:532:9
 put-line-requires : tie.Need-put-line-requires Inv-loop μ-loop
 put-line-requires c κs = (omega (arith, c .before .before .before .before .loop .inv .few), rw (c .before .step .ensures, c .before .before .op-at .ensures) (line-printable (c .before .before .before .before .loop .inv) (search needs)))
 
--- src/lib.rt:533:9
 add-i : tie.Need-add-i Inv-loop μ-loop
 add-i c = search needs
 
--- src/lib.rt:528:5
 loop-less : tie.Need-loop-less Inv-loop μ-loop
 loop-less c = search needs
 
--- src/lib.rt:528:5
 loop-again : tie.Need-loop-again Inv-loop μ-loop
 loop-again c = rw (c .before .before .before .before .step .ensures, c .before .before .before .before .before .op-at .ensures) (line-turn (c .before .before .before .before .before .before .before .loop .inv) (search needs) (rw (c .before .before .before .before .before .before .before .before .before .before .word .ensures, c .before .before .before .before .before .before .before .before .before .word2 .ensures, c .before .before .before .before .step .ensures, c .before .before .before .before .before .op-at .ensures) at (c .before .before .put-line .ensures)))
 
--- src/lib.rt:518:1
 returns : tie.Need-returns Inv-loop μ-loop
 returns c = lines-done (c .before .loop .inv) (search needs)
 
--- src/lib.rt:518:1
 same-length : tie.Need-same-length Inv-loop μ-loop
 same-length c = put-length (returns c)
 

@@ -1,3 +1,4 @@
+-- `put_ra`: by the flag.
 use Rattle.text.specs.Text.Laws.{put-none}
 use Rattle.lines.specs.Lines.{rulesText}
 use Rattle.lines.specs.Rules.{ruleName}
@@ -7,24 +8,17 @@ use native.Mathlib.Omega.{arith}
 use borrow.Author.Needs.{needs}
 use Rattle.arm64.proofs.put_ra.Statement.{statement}
 use Rattle.arm64.proofs.put_ra.Tie as tie
-use Rattle.arm64.proofs.put_ra.Reads as reads
-use Rattle.arm64.proofs.put_ra.Lts as lts
-use Rattle.arm64.proofs.put_saved.Reads as put-saved-reads
 
--- src/lib.rt:432:9
 put-saved-requires : tie.Need-put-saved-requires
 put-saved-requires c κs = search needs
 
--- src/lib.rt:432:9
 same-length : tie.Need-same-length
 same-length c = search needs
 
--- src/lib.rt:432:9
 returns : tie.Need-returns
 unfolding raRule ruleName
 returns c = rw (c .before .before .before .before .if1 .taken) (put-one _ (c .before .before .put-saved .ensures))
 
--- src/lib.rt:426:1
 returns-2 : tie.Need-returns-2
 unfolding rulesText
 returns-2 c = rw (c .if1 .left) (put-none (omega arith) (omega arith))

@@ -1,3 +1,4 @@
+-- `put_saved`: the rule's number is the difference.
 use mathlib.Core.Path.{ap, _∙_}
 use lib.IntN.{ℤ}
 use mir.Syntax.{w64}
@@ -6,28 +7,19 @@ use mir.Facts.{toZ-ofZ}
 use Rattle.text.specs.Text.Laws.{put-as}
 use Rattle.lines.specs.Lines.{rule, atCfaPlus, ruleText}
 use Rattle.lines.specs.Rules.{ruleOf, ruleName, formOf}
-use native.Mathlib.Omega.{arith}
 use borrow.Author.Needs.{needs}
 use Rattle.arm64.proofs.put_saved.Statement.{statement}
 use Rattle.arm64.proofs.put_saved.Tie as tie
-use Rattle.arm64.proofs.put_saved.Reads as reads
-use Rattle.arm64.proofs.put_saved.Lts as lts
-use Rattle.lines.proofs.difference.Reads as difference-reads
-use Rattle.lines.proofs.put_rule.Reads as put-rule-reads
 
--- src/lib.rt:408:9
 difference-requires : tie.Need-difference-requires
 difference-requires c κs = search needs
 
--- src/lib.rt:410:5
 put-rule-requires : tie.Need-put-rule-requires
 put-rule-requires c κs = search needs
 
--- src/lib.rt:404:1
 same-length : tie.Need-same-length
 same-length c = search needs
 
--- src/lib.rt:404:1
 returns : tie.Need-returns
 unfolding ruleOf formOf
 returns c =

@@ -1,27 +1,19 @@
+-- `saved_fits`: by the test.
 use Rattle.arm64.specs.Arm64.{savedFits}
-use native.Mathlib.Omega.{arith}
 use borrow.Author.Needs.{needs}
 use Rattle.arm64.proofs.saved_fits.Statement.{statement}
 use Rattle.arm64.proofs.saved_fits.Tie as tie
-use Rattle.arm64.proofs.saved_fits.Reads as reads
-use Rattle.arm64.proofs.saved_fits.Lts as lts
-use Rattle.arm64.proofs.both.Reads as both-reads
-use Rattle.arm64.proofs.is_inside.Reads as is-inside-reads
 
--- src/lib.rt:356:21
 is-inside-requires : tie.Need-is-inside-requires
 is-inside-requires c κs = search needs
 
--- src/lib.rt:356:9
 both-requires : tie.Need-both-requires
 both-requires c κs = search needs
 
--- src/lib.rt:356:9
 returns : tie.Need-returns
 unfolding savedFits
 returns c = rw (c .before .before .before .if1 .taken, ← c .before .before .is-inside .ensures) (c .both .ensures)
 
--- src/lib.rt:352:1
 returns-2 : tie.Need-returns-2
 unfolding savedFits
 returns-2 c = rw (c .if1 .left)

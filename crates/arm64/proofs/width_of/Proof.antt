@@ -1,18 +1,14 @@
+-- `width_of`: by the test.
 use borrow.Author.Tests.{lt-ltb, le-ltb}
 use Rattle.arm64.specs.Arm64.{width}
-use borrow.Author.Needs.{needs}
 use native.Mathlib.Omega.{arith}
 use Rattle.arm64.proofs.width_of.Statement.{statement}
 use Rattle.arm64.proofs.width_of.Tie as tie
-use Rattle.arm64.proofs.width_of.Reads as reads
-use Rattle.arm64.proofs.width_of.Lts as lts
 
--- src/lib.rt:148:1
 returns : tie.Need-returns
 unfolding width
 returns c = (rw (lt-ltb (c .before .args .letter) 2 (c .if1 .taken)), omega arith)
 
--- src/lib.rt:148:1
 returns-2 : tie.Need-returns-2
 unfolding width
 returns-2 c = (rw (le-ltb (c .before .args .letter) 2 (c .if1 .left)), omega arith)

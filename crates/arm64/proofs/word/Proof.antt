@@ -1,25 +1,19 @@
+-- `word`: the word at i, or past the end the default.
 use mathlib.Core.Path.{sym}
 use lib.ListN.{List·getD-eq-default}
-use native.Mathlib.Omega.{arith}
 use borrow.Author.Needs.{needs}
 use Rattle.arm64.proofs.word.Statement.{statement}
 use Rattle.arm64.proofs.word.Tie as tie
-use Rattle.arm64.proofs.word.Reads as reads
-use Rattle.arm64.proofs.word.Lts as lts
 
--- src/lib.rt:94:16
 mul-result : tie.Need-mul-result
 mul-result c = search needs
 
--- src/lib.rt:94:16
 shared-slice-read-result : tie.Need-shared-slice-read-result
 shared-slice-read-result c = search needs
 
--- src/lib.rt:94:9
 returns : tie.Need-returns
 returns c = search needs
 
--- src/lib.rt:90:1
 returns-2 : tie.Need-returns-2
 returns-2 c = sym (List·getD-eq-default (c .before .args .body .now) 0 (search needs))
 

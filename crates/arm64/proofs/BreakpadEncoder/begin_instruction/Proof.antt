@@ -1,12 +1,9 @@
+-- `begin_instruction`: as it stands.
 use Rattle.arm64.specs.Arm64.{began}
 use borrow.Author.Needs.{needs}
-use native.Mathlib.Omega.{arith}
 use Rattle.arm64.proofs.BreakpadEncoder.begin_instruction.Statement.{statement}
 use Rattle.arm64.proofs.BreakpadEncoder.begin_instruction.Tie as tie
-use Rattle.arm64.proofs.BreakpadEncoder.begin_instruction.Reads as reads
-use Rattle.arm64.proofs.BreakpadEncoder.begin_instruction.Lts as lts
 
--- src/lib.rt:192:5
 returns : tie.Need-returns
 unfolding began
 returns c = search needs

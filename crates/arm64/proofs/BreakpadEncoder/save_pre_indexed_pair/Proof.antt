@@ -1,27 +1,19 @@
+-- `save_pre_indexed_pair`: by what its callees ensure.
 use Rattle.arm64.specs.Arm64.{double, remembered}
-use native.Mathlib.Omega.{arith}
 use borrow.Author.Needs.{needs}
 use Rattle.arm64.proofs.BreakpadEncoder.save_pre_indexed_pair.Statement.{statement}
 use Rattle.arm64.proofs.BreakpadEncoder.save_pre_indexed_pair.Tie as tie
-use Rattle.arm64.proofs.BreakpadEncoder.save_pre_indexed_pair.Reads as reads
-use Rattle.arm64.proofs.BreakpadEncoder.save_pre_indexed_pair.Lts as lts
-use Rattle.arm64.proofs.BreakpadEncoder.alloc_stack.Reads as alloc-stack-reads
-use Rattle.arm64.proofs.BreakpadEncoder.save_pair.Reads as save-pair-reads
 
--- src/lib.rt:292:16
 add-t8 : tie.Need-add-t8
 add-t8 c = search needs
 
--- src/lib.rt:288:13
 save-pair-requires : tie.Need-save-pair-requires
 save-pair-requires c κs = search needs
 
--- src/lib.rt:294:9
 alloc-stack-requires : tie.Need-alloc-stack-requires
 unfolding double remembered
 alloc-stack-requires c κs = rw (c .save-pair .ensures) (c .before .before .pre)
 
--- src/lib.rt:284:5
 returns : tie.Need-returns
 returns c = rw (c .before .save-pair .ensures) at (c .alloc-stack .ensures)
 

@@ -1,146 +1,108 @@
+-- `step`: one method for each operation, after a fresh start.
 use Rattle.arm64.specs.Arm64.{stepped, began}
 use native.Mathlib.Omega.{arith}
 use borrow.Author.Needs.{needs}
 use Rattle.arm64.proofs.BreakpadEncoder.step.Statement.{statement}
 use Rattle.arm64.proofs.BreakpadEncoder.step.Tie as tie
-use Rattle.arm64.proofs.BreakpadEncoder.step.Reads as reads
-use Rattle.arm64.proofs.BreakpadEncoder.step.Lts as lts
-use Rattle.arm64.proofs.BreakpadEncoder.alloc_stack.Reads as alloc-stack-reads
-use Rattle.arm64.proofs.BreakpadEncoder.begin_instruction.Reads as begin-instruction-reads
-use Rattle.arm64.proofs.BreakpadEncoder.save_indexed.Reads as save-indexed-reads
-use Rattle.arm64.proofs.BreakpadEncoder.save_indexed_pair.Reads as save-indexed-pair-reads
-use Rattle.arm64.proofs.BreakpadEncoder.save_indexed_reg_and_lr.Reads as save-indexed-reg-and-lr-reads
-use Rattle.arm64.proofs.BreakpadEncoder.save_next_pair.Reads as save-next-pair-reads
-use Rattle.arm64.proofs.BreakpadEncoder.save_pre_indexed.Reads as save-pre-indexed-reads
-use Rattle.arm64.proofs.BreakpadEncoder.save_pre_indexed_pair.Reads as save-pre-indexed-pair-reads
 
--- src/lib.rt:329:13
 begin-instruction-requires : tie.Need-begin-instruction-requires
 begin-instruction-requires c κs = search needs
 
--- src/lib.rt:331:28
 enum-known-op : tie.Need-enum-known-op
 enum-known-op c = search needs
 
--- src/lib.rt:331:34
 alloc-stack-requires : tie.Need-alloc-stack-requires
 unfolding began
 alloc-stack-requires c κs = rw (c .before .before .before .begin-instruction .ensures) (c .before .before .before .before .pre .total)
 
--- src/lib.rt:332:25
 enum-known-op-2 : tie.Need-enum-known-op-2
 enum-known-op-2 c = search needs
 
--- src/lib.rt:332:37
 save-indexed-requires : tie.Need-save-indexed-requires
 save-indexed-requires c κs = search needs
 
--- src/lib.rt:333:35
 enum-known-op-3 : tie.Need-enum-known-op-3
 enum-known-op-3 c = search needs
 
--- src/lib.rt:333:47
 save-pre-indexed-requires : tie.Need-save-pre-indexed-requires
 unfolding began
 save-pre-indexed-requires c κs = rw (c .before .before .before .begin-instruction .ensures) (c .before .before .before .before .pre .total)
 
--- src/lib.rt:334:29
 enum-known-op-4 : tie.Need-enum-known-op-4
 enum-known-op-4 c = search needs
 
--- src/lib.rt:334:41
 save-indexed-pair-requires : tie.Need-save-indexed-pair-requires
 save-indexed-pair-requires c κs = search needs
 
--- src/lib.rt:335:39
 enum-known-op-5 : tie.Need-enum-known-op-5
 enum-known-op-5 c = search needs
 
--- src/lib.rt:335:51
 save-pre-indexed-pair-requires : tie.Need-save-pre-indexed-pair-requires
 unfolding began
 save-pre-indexed-pair-requires c κs = rw (c .before .before .before .begin-instruction .ensures) (c .before .before .before .before .pre .total)
 
--- src/lib.rt:336:28
 enum-known-op-6 : tie.Need-enum-known-op-6
 enum-known-op-6 c = search needs
 
--- src/lib.rt:336:37
 save-indexed-reg-and-lr-requires : tie.Need-save-indexed-reg-and-lr-requires
 save-indexed-reg-and-lr-requires c κs = search needs
 
--- src/lib.rt:337:29
 enum-told : tie.Need-enum-told
 enum-told c = search needs
 
--- src/lib.rt:337:29
 save-next-pair-requires : tie.Need-save-next-pair-requires
 unfolding began
 save-next-pair-requires c κs = rw (c .before .before .begin-instruction .ensures) (omega (arith, c .before .before .before .pre), omega (arith, c .before .before .before .pre))
 
--- src/lib.rt:338:26
 enum-told-2 : tie.Need-enum-told-2
 enum-told-2 c = search needs
 
--- src/lib.rt:338:26
 alloc-stack-requires-2 : tie.Need-alloc-stack-requires-2
 unfolding began
 alloc-stack-requires-2 c κs = rw (c .before .before .begin-instruction .ensures) (c .before .before .before .pre .total)
 
--- src/lib.rt:339:24
 enum-told-3 : tie.Need-enum-told-3
 enum-told-3 c = search needs
 
--- src/lib.rt:340:32
 enum-told-4 : tie.Need-enum-told-4
 enum-told-4 c = search needs
 
--- src/lib.rt:325:5
 returns : tie.Need-returns
 unfolding stepped began
 returns c = rw (c .before .before .op .given .1) (rw (c .before .before .before .before .begin-instruction .ensures) at (c .alloc-stack .ensures))
 
--- src/lib.rt:325:5
 returns-2 : tie.Need-returns-2
 unfolding stepped began
 returns-2 c = rw (c .before .before .op2 .given .1) (rw (c .before .before .before .before .begin-instruction .ensures) at (c .save-indexed .ensures))
 
--- src/lib.rt:325:5
 returns-3 : tie.Need-returns-3
 unfolding stepped began
 returns-3 c = rw (c .before .before .op3 .given .1) (rw (c .before .before .before .before .begin-instruction .ensures) at (c .save-pre-indexed .ensures))
 
--- src/lib.rt:325:5
 returns-4 : tie.Need-returns-4
 unfolding stepped began
 returns-4 c = rw (c .before .before .op4 .given .1) (rw (c .before .before .before .before .begin-instruction .ensures) at (c .save-indexed-pair .ensures))
 
--- src/lib.rt:325:5
 returns-5 : tie.Need-returns-5
 unfolding stepped began
 returns-5 c = rw (c .before .before .op5 .given .1) (rw (c .before .before .before .before .begin-instruction .ensures) at (c .save-pre-indexed-pair .ensures))
 
--- src/lib.rt:325:5
 returns-6 : tie.Need-returns-6
 unfolding stepped began
 returns-6 c = rw (c .before .before .op6 .given .1) (rw (c .before .before .before .before .begin-instruction .ensures) at (c .save-indexed-reg-and-lr .ensures))
 
--- src/lib.rt:325:5
 returns-7 : tie.Need-returns-7
 unfolding stepped began
 returns-7 c = rw (c .before .enum-told .given .1) (rw (c .before .before .before .begin-instruction .ensures) at (c .save-next-pair .ensures))
 
--- src/lib.rt:325:5
 returns-8 : tie.Need-returns-8
 unfolding stepped began
 returns-8 c = rw (c .before .enum-told2 .given .1) (rw (c .before .before .before .begin-instruction .ensures) at (c .alloc-stack2 .ensures))
 
--- src/lib.rt:325:5
 returns-9 : tie.Need-returns-9
 unfolding stepped
 returns-9 c = rw (c .enum-told3 .given .1) (c .before .before .begin-instruction .ensures)
 
--- src/lib.rt:325:5
 returns-10 : tie.Need-returns-10
 unfolding stepped
 returns-10 c = rw (c .enum-told4 .given .1) (c .before .before .begin-instruction .ensures)
