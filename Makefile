@@ -2,19 +2,37 @@
 RUST_SRC ?= ../shared/docs/src
 export RUST_SRC
 
-.PHONY: help test prove must-fail fmt clean
+.PHONY: help run test lib fuzz prove must-fail fmt clean
 
 help:
-	@echo 'make test       everything: the proofs, the must-fail edits, the programs, the tests beside them'
-	@echo 'make prove      the proofs alone'
-	@echo 'make must-fail  the must-fail edits alone'
-	@echo 'make fmt        lay out the sources'
-	@echo 'make clean      remove what was built'
+	@echo 'make run BOOK=file        print the STACK lines of a book, as specimens/first.book'
+	@echo 'make test                 everything: the proofs, the must-fail edits, the programs, the tests beside them'
+	@echo 'make lib                  the archive to link from C, target/staticlib/libtranslate.a; its header is bindings/c/stacklines.h'
+	@echo 'make fuzz [SEED=] [N=]    the archive against the model and the Rust on N books, from a fresh seed unless one is given'
+	@echo 'make prove                the proofs alone'
+	@echo 'make must-fail            the must-fail edits alone'
+	@echo 'make fmt                  lay out the sources'
+	@echo 'make clean                remove what was built'
 	@echo
 	@echo 'RUST_SRC is the folder of the Rust source, $(RUST_SRC); without it its tests are skipped.'
 
+run:
+	@test -f '$(BOOK)' || { echo 'make run BOOK=file' >&2; exit 2; }
+	@mkdir -p target
+	@test -f target/bin/stacklines || echo 'proving stacklines first; that takes minutes' >&2
+	@rt check stacklines >target/run.log 2>&1 || { cat target/run.log >&2; exit 1; }
+	@target/bin/stacklines <'$(BOOK)'
+
 test:
 	@sh tests/run
+
+lib:
+	@mkdir -p target
+	@rt staticlib translate >target/lib.log 2>&1 || { cat target/lib.log >&2; exit 1; }
+	@echo target/staticlib/libtranslate.a
+
+fuzz: lib
+	@SEED='$(SEED)' N='$(N)' sh tests/fuzz
 
 prove:
 	rt prove
@@ -26,4 +44,4 @@ fmt:
 	rt fmt
 
 clean:
-	rm -rf target
+	rm -rf target oracle/target

@@ -1,33 +1,28 @@
+-- `contents`: the header's test, then that of the bodies.
 use mathlib.Core.Path.{sym, _∙_}
-use Rattle.book.specs.Book.{count, contentsOk, header}
-use native.Mathlib.Omega.{arith}
+use Rattle.book.specs.Book.{contentsOk, header}
 use borrow.Author.Needs.{needs}
 use Rattle.book.proofs.contents.Statement.{statement}
 use Rattle.book.proofs.contents.Tie as tie
-use Rattle.book.proofs.contents.Reads as reads
-use Rattle.book.proofs.contents.Lts as lts
-use Rattle.book.proofs.bodies_ok.Reads as bodies-ok-reads
-use Rattle.book.proofs.count_of.Reads as count-of-reads
-use Rattle.book.proofs.header_ok.Reads as header-ok-reads
 
--- src/lib.rt:111:8
 header-ok-requires : tie.Need-header-ok-requires
 header-ok-requires c κs = search needs
 
--- src/lib.rt:112:32
 count-of-requires : tie.Need-count-of-requires
 count-of-requires c κs = search needs
 
--- src/lib.rt:112:9
 bodies-ok-requires : tie.Need-bodies-ok-requires
-bodies-ok-requires c κs = let h = header (c .before .before .before .before .args .book .now) (sym (c .before .before .header-ok .ensures) ∙ c .before .if1 .taken) in rw (c .count-of .ensures) (h .few, h .room)
+bodies-ok-requires c κs =
+    let h = header (c .before .before .before .before .args .book .now)
+    (sym (c .before .before .header-ok .ensures) ∙ c .before .if1 .taken) in
+    rw (c .count-of .ensures) (h .few, h .room)
 
--- src/lib.rt:112:9
 returns : tie.Need-returns
 unfolding contentsOk
-returns c = rw (← c .before .before .before .header-ok .ensures, c .before .before .if1 .taken, ← c .before .count-of .ensures) (c .bodies-ok .ensures)
+returns c =
+    rw (← c .before .before .before .header-ok .ensures, c .before .before .if1 .taken, ← c .before .count-of .ensures)
+    (c .bodies-ok .ensures)
 
--- src/lib.rt:108:1
 returns-2 : tie.Need-returns-2
 unfolding contentsOk
 returns-2 c = rw (← c .before .header-ok .ensures, c .if1 .left)

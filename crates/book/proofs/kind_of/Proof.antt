@@ -1,23 +1,18 @@
+-- `kind_of`: word 0; past the end of an empty book stands 0.
 use mathlib.Core.Path.{sym}
 use lib.ListN.{List·getD-eq-default}
 use Rattle.book.specs.Book.{kind}
-use native.Mathlib.Omega.{arith}
 use borrow.Author.Needs.{needs}
 use Rattle.book.proofs.kind_of.Statement.{statement}
 use Rattle.book.proofs.kind_of.Tie as tie
-use Rattle.book.proofs.kind_of.Reads as reads
-use Rattle.book.proofs.kind_of.Lts as lts
 
--- src/lib.rt:35:16
 shared-slice-read-result : tie.Need-shared-slice-read-result
 shared-slice-read-result c = search needs
 
--- src/lib.rt:35:9
 returns : tie.Need-returns
 unfolding kind
 returns c = search needs
 
--- src/lib.rt:31:1
 returns-2 : tie.Need-returns-2
 unfolding kind
 returns-2 c = sym (List·getD-eq-default (c .before .args .book .now) 0 (search needs))

@@ -1,25 +1,18 @@
+-- `size_of`: the second word of pair i.
 use Rattle.book.specs.Book.{sizeOf}
-use native.Mathlib.Omega.{arith}
 use borrow.Author.Needs.{needs}
 use Rattle.book.proofs.size_of.Statement.{statement}
 use Rattle.book.proofs.size_of.Tie as tie
-use Rattle.book.proofs.size_of.Reads as reads
-use Rattle.book.proofs.size_of.Lts as lts
-use Rattle.book.proofs.word.Reads as word-reads
 
--- src/lib.rt:59:20
 mul-word : tie.Need-mul-word
 mul-word c = search needs
 
--- src/lib.rt:59:16
 add-word : tie.Need-add-word
 add-word c = search needs
 
--- src/lib.rt:59:5
 word-requires : tie.Need-word-requires
 word-requires c κs = search needs
 
--- src/lib.rt:55:1
 returns : tie.Need-returns
 unfolding sizeOf
 returns c = c .word .ensures

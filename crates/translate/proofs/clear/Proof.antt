@@ -1,3 +1,4 @@
+-- `clear`: the first i bytes are 0, and the rest is as it was.
 use Prim.Native.Nat.{_≤_, _-_}
 use mathlib.Core.List.{_++_, append-nil}
 use mathlib.Core.Path.{_≡_, refl, _∙_}
@@ -8,8 +9,6 @@ use borrow.Author.Needs.{needs}
 use native.Mathlib.Omega.{arith}
 use Rattle.translate.proofs.clear.Statement.{statement}
 use Rattle.translate.proofs.clear.Tie as tie
-use Rattle.translate.proofs.clear.Reads as reads
-use Rattle.translate.proofs.clear.Lts as lts
 
 abbrev Inv-loop : tie.InvT-loop
 Inv-loop out₀ i₀ out i = (i ≤ length out₀) × (length out ≡ length out₀) × (out ≡ replicate i 0 ++ drop i out₀)
@@ -17,33 +16,34 @@ Inv-loop out₀ i₀ out i = (i ≤ length out₀) × (length out ≡ length out
 abbrev μ-loop : tie.MeasureT-loop
 μ-loop out₀ i₀ out i = length out₀ - i
 
--- src/lib.rt:131:5
 loop-holds : tie.Need-loop-holds Inv-loop μ-loop
 loop-holds c = (omega arith, refl, refl)
 
--- src/lib.rt:132:9
 slice-write-out : tie.Need-slice-write-out Inv-loop μ-loop
 slice-write-out c = search needs
 
--- src/lib.rt:133:9
 add-i : tie.Need-add-i Inv-loop μ-loop
 add-i c = search needs
 
--- src/lib.rt:131:5
 loop-less : tie.Need-loop-less Inv-loop μ-loop
 loop-less c = search needs
 
--- src/lib.rt:131:5
 loop-again : tie.Need-loop-again Inv-loop μ-loop
-loop-again c = (omega arith, search needs, rw (c .before .loop .inv .2) (fill-more (c .before .loop .i) 0 (c .before .before .args .out .now) (omega arith)))
+loop-again c = (
+  omega arith,
+  search needs,
+  rw (c .before .loop .inv .2)
+      (fill-more (c .before .loop .i) 0 (c .before .before .args .out .now) (omega arith)),
+)
 
--- src/lib.rt:127:1
 same-length : tie.Need-same-length Inv-loop μ-loop
 same-length c = search needs
 
--- src/lib.rt:127:1
 returns : tie.Need-returns Inv-loop μ-loop
-returns c = let o = c .before .before .args .out .now in let e : c .before .loop .i ≡ length o = omega arith in c .before .loop .inv .2 ∙ rw (e, drop-length o, append-nil)
+returns c =
+    let o = c .before .before .args .out .now in
+    let e : c .before .loop .i ≡ length o = omega arith in
+    c .before .loop .inv .2 ∙ rw (e, drop-length o, append-nil)
 
 pub clear-spec : {M : Type 1} → statement M
 clear-spec =

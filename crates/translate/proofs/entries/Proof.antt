@@ -1,3 +1,4 @@
+-- `entries`: the first i entries are done (`Going`); the next one ends the walk or goes on.
 use Prim.Native.Nat.{_+_, _≤_, _<_, _-_}
 use mathlib.Core.Path.{_≡_}
 use lib.ListN.{length}
@@ -9,34 +10,23 @@ use borrow.Author.Needs.{needs}
 use native.Mathlib.Omega.{arith}
 use Rattle.translate.proofs.entries.Statement.{statement}
 use Rattle.translate.proofs.entries.Tie as tie
-use Rattle.translate.proofs.entries.Reads as reads
-use Rattle.translate.proofs.entries.Lts as lts
-use Rattle.book.proofs.count_of.Reads as count-of-reads
-use Rattle.book.proofs.kind_of.Reads as kind-of-reads
-use Rattle.book.proofs.size_of.Reads as size-of-reads
-use Rattle.book.proofs.start_of.Reads as start-of-reads
-use Rattle.entry.proofs.Last.none.Reads as none-reads
-use Rattle.translate.proofs.step.Reads as step-reads
 
 abbrev Inv-loop : tie.InvT-loop
-Inv-loop book limit work₀ text₀ kind n last₀ used₀ i₀ work text last used i = (i ≤ n) × (n ≤ 1024) × (length book ≤ 16384) × (length work ≡ AREA) × Going book limit text₀ last i text used
+Inv-loop book limit work₀ text₀ kind n last₀ used₀ i₀ work text last used i =
+    (i ≤ n) × (n ≤ 1024) × (length book ≤ 16384) × (length work ≡ AREA) × Going book limit text₀ last i text used
 
 abbrev μ-loop : tie.MeasureT-loop
 μ-loop book limit work₀ text₀ kind n last₀ used₀ i₀ work text last used i = n - i
 
--- src/lib.rt:99:9
 kind-of-requires : tie.Need-kind-of-requires Inv-loop μ-loop
 kind-of-requires c κs = search needs
 
--- src/lib.rt:100:9
 count-of-requires : tie.Need-count-of-requires Inv-loop μ-loop
 count-of-requires c κs = search needs
 
--- src/lib.rt:101:9
 none-requires : tie.Need-none-requires Inv-loop μ-loop
 none-requires c κs = search needs
 
--- src/lib.rt:104:5
 -- the turn's body lies within the book
 inside : (c : tie.After-size-of Inv-loop μ-loop) → c .before .start-of .result + c .size-of .result ≤ length (c .before .before .before .before .before .before .before .before .before .before .args .book .now)
 inside c =
@@ -45,82 +35,103 @@ inside c =
     omega (arith, body-within (s .args .book .now) (s .pre .0) (c .before .before .before .loop .i) h, c .before .start-of .ensures, c .size-of .ensures)
 
 loop-holds : tie.Need-loop-holds Inv-loop μ-loop
-loop-holds c = let h = contents-header (c .before .before .before .before .before .before .args .book .now) (c .before .before .before .before .before .before .pre .0) in (omega arith, omega (arith, h .few, c .before .count-of .ensures), omega (arith, h .most), omega arith, rw (c .none .ensures) (going-none (c .before .before .before .before .before .before .args .book .now) (c .before .before .before .before .before .before .args .limit) (c .before .before .before .before .before .before .args .text .now) (omega arith)))
+loop-holds c =
+    let args = c .before .before .before .before .before .before .args in
+    let pre = c .before .before .before .before .before .before .pre in
+    let h = contents-header (args .book .now) (pre .0) in (
+      omega arith,
+      omega (arith, h .few, c .before .count-of .ensures),
+      omega (arith, h .most),
+      omega arith,
+      rw (c .none .ensures)
+          (going-none (args .book .now) (args .limit) (args .text .now) (omega arith)),
+    )
 
--- src/lib.rt:105:13
 start-of-requires : tie.Need-start-of-requires Inv-loop μ-loop
 start-of-requires c κs = search needs
 
--- src/lib.rt:106:21
 size-of-requires : tie.Need-size-of-requires Inv-loop μ-loop
 size-of-requires c κs = search needs
 
--- src/lib.rt:106:17
 add-e : tie.Need-add-e Inv-loop μ-loop
 add-e c = omega (arith, inside c)
 
--- src/lib.rt:107:41
 mul-step : tie.Need-mul-step Inv-loop μ-loop
 mul-step c = omega (arith, inside c)
 
--- src/lib.rt:107:41
 sub-step : tie.Need-sub-step Inv-loop μ-loop
 sub-step c = search needs
 
--- src/lib.rt:107:41
 part-step-start : tie.Need-part-step-start Inv-loop μ-loop
 part-step-start c = search needs
 
--- src/lib.rt:107:41
 part-step-end : tie.Need-part-step-end Inv-loop μ-loop
 part-step-end c = omega (arith, inside c)
 
--- src/lib.rt:107:13
 step-requires : tie.Need-step-requires Inv-loop μ-loop
-step-requires c κs = let l = c .before .before .before .before .before .before .loop in (omega (arith, l .inv .3), omega (arith, l .inv .4 .fits, put-length (l .inv .4 .put)))
+step-requires c κs =
+    let l = c .before .before .before .before .before .before .loop in
+    (omega (arith, l .inv .3), omega (arith, l .inv .4 .fits, put-length (l .inv .4 .put)))
 
--- src/lib.rt:110:13
 same-length : tie.Need-same-length Inv-loop μ-loop
 same-length c = search needs
 
--- src/lib.rt:110:13
 same-length-2 : tie.Need-same-length-2 Inv-loop μ-loop
-same-length-2 c = let l = c .before .before .before .before .before .before .before .before .before .before .before .before .loop in omega (arith, c .before .before .before .before .before .step .kept, put-length (l .inv .4 .put))
+same-length-2 c =
+    let step = c .before .before .before .before .before .step in
+    let l = c .before .before .before .before .before .before .before .before .before .before .before .before .loop in
+    omega (arith, step .kept, put-length (l .inv .4 .put))
 
--- src/lib.rt:110:13
 returns : tie.Need-returns Inv-loop μ-loop
 returns c =
+    let step = c .before .before .before .before .before .step in
+    let size-of = c .before .before .before .before .before .before .before .before .before .size-of in
+    let start-of = c .before .before .before .before .before .before .before .before .before .before .start-of in
+    let loop-test = c .before .before .before .before .before .before .before .before .before .before .before .loop-test in
+    let count-of = c .before .before .before .before .before .before .before .before .before .before .before .before .before .before .count-of in
+    let kind-of = c .before .before .before .before .before .before .before .before .before .before .before .before .before .before .before .kind-of in
+    let args = c .before .before .before .before .before .before .before .before .before .before .before .before .before .before .before .before .before .before .before .args in
     let l = c .before .before .before .before .before .before .before .before .before .before .before .before .loop in
-    going-stop (l .inv .4) (omega (arith, c .before .before .before .before .before .before .before .before .before .before .before .before .before .before .count-of .ensures, c .before .before .before .before .before .before .before .before .before .before .before .loop-test .taken)) (rw (part-is (c .before .before .before .before .before .before .before .before .before .before .before .before .before .before .before .before .before .before .before .args .book .now) (l .i) (c .before .before .before .before .before .before .before .before .before .before .start-of .result) (c .before .before .before .before .before .before .before .before .before .size-of .result) (c .before .before .before .before .before .before .before .before .before .before .start-of .ensures) (c .before .before .before .before .before .before .before .before .before .size-of .ensures), c .before .before .before .before .before .before .before .before .before .before .before .before .before .before .before .kind-of .ensures) at (c .before .before .before .before .before .step .ensures)) (c .if1 .taken)
+    going-stop (l .inv .4) (omega (arith, count-of .ensures, loop-test .taken))
+    (rw (
+      part-is (args .book .now) (l .i) (start-of .result) (size-of .result) (start-of .ensures) (size-of .ensures),
+      kind-of .ensures,
+    ) at (step .ensures)) (c .if1 .taken)
 
--- src/lib.rt:118:9
 add-i : tie.Need-add-i Inv-loop μ-loop
 add-i c = search needs
 
--- src/lib.rt:104:5
 loop-less : tie.Need-loop-less Inv-loop μ-loop
 loop-less c = search needs
 
--- src/lib.rt:104:5
 loop-again : tie.Need-loop-again Inv-loop μ-loop
 loop-again c =
+    let step = c .before .before .before .before .before .before .step in
+    let size-of = c .before .before .before .before .before .before .before .before .before .before .size-of in
+    let start-of = c .before .before .before .before .before .before .before .before .before .before .before .start-of in
+    let loop-test = c .before .before .before .before .before .before .before .before .before .before .before .before .loop-test in
+    let count-of = c .before .before .before .before .before .before .before .before .before .before .before .before .before .before .before .count-of in
+    let kind-of = c .before .before .before .before .before .before .before .before .before .before .before .before .before .before .before .before .kind-of in
+    let args = c .before .before .before .before .before .before .before .before .before .before .before .before .before .before .before .before .before .before .before .before .args in
     let l = c .before .before .before .before .before .before .before .before .before .before .before .before .before .loop in (
       omega arith,
       search needs,
       search needs,
-      omega (arith, c .before .before .before .before .before .before .step .kept, l .inv .3),
-      going-more (l .inv .4) (omega (arith, c .before .before .before .before .before .before .before .before .before .before .before .before .before .before .before .count-of .ensures, c .before .before .before .before .before .before .before .before .before .before .before .before .loop-test .taken)) (rw (part-is (c .before .before .before .before .before .before .before .before .before .before .before .before .before .before .before .before .before .before .before .before .args .book .now) (l .i) (c .before .before .before .before .before .before .before .before .before .before .before .start-of .result) (c .before .before .before .before .before .before .before .before .before .before .size-of .result) (c .before .before .before .before .before .before .before .before .before .before .before .start-of .ensures) (c .before .before .before .before .before .before .before .before .before .before .size-of .ensures), c .before .before .before .before .before .before .before .before .before .before .before .before .before .before .before .before .kind-of .ensures) at (c .before .before .before .before .before .before .step .ensures)) (c .before .if1 .left),
+      omega (arith, step .kept, l .inv .3),
+      going-more (l .inv .4)
+          (omega (arith, count-of .ensures, loop-test .taken))
+          (rw (
+            part-is (args .book .now) (l .i) (start-of .result) (size-of .result) (start-of .ensures) (size-of .ensures),
+            kind-of .ensures,
+          ) at (step .ensures)) (c .before .if1 .left),
     )
 
--- src/lib.rt:95:1
 same-length-3 : tie.Need-same-length-3 Inv-loop μ-loop
 same-length-3 c = search needs
 
--- src/lib.rt:95:1
 same-length-4 : tie.Need-same-length-4 Inv-loop μ-loop
 same-length-4 c = put-length (c .before .loop .inv .4 .put)
 
--- src/lib.rt:95:1
 returns-2 : tie.Need-returns-2 Inv-loop μ-loop
 returns-2 c = going-end (c .before .loop .inv .4) (c .before .before .before .count-of .ensures) (omega arith)
 

@@ -1,59 +1,71 @@
+-- `judge`: layout, then skipping, then the reach, each by its contract.
 use mathlib.Core.Path.{_≡_, sym, ap, _∙_}
-use mathlib.Core.Bool.{true, false}
+use mathlib.Core.Bool.{true}
 use borrow.Author.Tests.{eq-eqb, ne-eqb, not-true, not-false}
-use Rattle.x64.specs.X64.{x64Layout, x64Skipped, x64Reach, x64Judged}
+use Rattle.x64.specs.X64.{x64Layout, x64Reach, x64Judged}
 use Rattle.entry.specs.declared.Judged.the-variants.{Refuse}
-use native.Mathlib.Omega.{arith}
 use borrow.Author.Needs.{needs}
 use Rattle.x64.proofs.judge.Statement.{statement}
 use Rattle.x64.proofs.judge.Tie as tie
-use Rattle.x64.proofs.judge.Reads as reads
-use Rattle.x64.proofs.judge.Lts as lts
-use Rattle.x64.proofs.layout.Reads as layout-reads
-use Rattle.x64.proofs.reach.Reads as reach-reads
-use Rattle.x64.proofs.skipped.Reads as skipped-reads
 
--- src/lib.rt:612:9
 layout-requires : tie.Need-layout-requires
 layout-requires c κs = search needs
 
--- src/lib.rt:613:9
 returns : tie.Need-returns
 unfolding x64Judged
 returns c = rw (sym (c .before .layout .ensures) ∙ not-true (c .before .layout .result) (c .if1 .taken))
 
--- src/lib.rt:615:8
 skipped-requires : tie.Need-skipped-requires
 skipped-requires c κs =
-    let l : x64Layout (c .before .before .before .args .body .now) ≡ true = sym (c .before .layout .ensures) ∙ not-false (c .before .layout .result) (c .if1 .left) in
+    let l : x64Layout (c .before .before .before .args .body .now) ≡ true = sym (c .before .layout .ensures) ∙ not-false
+    (c .before .layout .result) (c .if1 .left) in
     rw l tt
 
--- src/lib.rt:616:9
 returns-2 : tie.Need-returns-2
 unfolding x64Judged
 returns-2 c =
-    let l : x64Layout (c .before .before .before .before .before .args .body .now) ≡ true = sym (c .before .before .before .layout .ensures) ∙ not-false (c .before .before .before .layout .result) (c .before .before .if1 .left) in
+    let layout = c .before .before .before .layout in
+    let args = c .before .before .before .before .before .args in
+    let l : x64Layout (args .body .now) ≡ true = sym (layout .ensures) ∙ not-false (layout .result) (c .before .before .if1 .left)
+    in
     rw (l, sym (c .before .skipped .ensures) ∙ c .if2 .taken)
 
--- src/lib.rt:618:9
 reach-requires : tie.Need-reach-requires
 reach-requires c κs =
-    let l : x64Layout (c .before .before .before .before .before .args .body .now) ≡ true = sym (c .before .before .before .layout .ensures) ∙ not-false (c .before .before .before .layout .result) (c .before .before .if1 .left) in
+    let layout = c .before .before .before .layout in
+    let args = c .before .before .before .before .before .args in
+    let l : x64Layout (args .body .now) ≡ true = sym (layout .ensures) ∙ not-false (layout .result) (c .before .before .if1 .left)
+    in
     rw l tt
 
--- src/lib.rt:620:9
 returns-3 : tie.Need-returns-3
 unfolding x64Judged
 returns-3 c =
-    let l : x64Layout (c .before .before .before .before .before .before .before .args .body .now) ≡ true = sym (c .before .before .before .before .before .layout .ensures) ∙ not-false (c .before .before .before .before .before .layout .result) (c .before .before .before .before .if1 .left) in
-    rw (l, sym (c .before .before .before .skipped .ensures) ∙ c .before .before .if2 .left, ne-eqb (x64Reach (c .before .before .before .before .before .before .before .args .limit) (c .before .before .before .before .before .before .before .args .body .now)) 0 (λ e. c .if3 .taken (c .before .reach .ensures ∙ e))) (ap Refuse (c .before .reach .ensures))
+    let layout = c .before .before .before .before .before .layout in
+    let args = c .before .before .before .before .before .before .before .args in
+    let l : x64Layout (args .body .now) ≡ true = sym (layout .ensures) ∙ not-false (layout .result)
+    (c .before .before .before .before .if1 .left) in
+    rw (
+      l,
+      sym (c .before .before .before .skipped .ensures) ∙ c .before .before .if2 .left,
+      ne-eqb
+          (x64Reach (args .limit) (args .body .now)) 0 (λ e. c .if3 .taken (c .before .reach .ensures ∙ e)),
+    )
+    (ap Refuse (c .before .reach .ensures))
 
--- src/lib.rt:609:1
 returns-4 : tie.Need-returns-4
 unfolding x64Judged
 returns-4 c =
-    let l : x64Layout (c .before .before .before .before .before .before .before .args .body .now) ≡ true = sym (c .before .before .before .before .before .layout .ensures) ∙ not-false (c .before .before .before .before .before .layout .result) (c .before .before .before .before .if1 .left) in
-    rw (l, sym (c .before .before .before .skipped .ensures) ∙ c .before .before .if2 .left, eq-eqb (x64Reach (c .before .before .before .before .before .before .before .args .limit) (c .before .before .before .before .before .before .before .args .body .now)) 0 (sym (c .before .reach .ensures) ∙ c .if3 .left))
+    let layout = c .before .before .before .before .before .layout in
+    let args = c .before .before .before .before .before .before .before .args in
+    let l : x64Layout (args .body .now) ≡ true = sym (layout .ensures) ∙ not-false (layout .result)
+    (c .before .before .before .before .if1 .left) in
+    rw (
+      l,
+      sym (c .before .before .before .skipped .ensures) ∙ c .before .before .if2 .left,
+      eq-eqb
+          (x64Reach (args .limit) (args .body .now)) 0 (sym (c .before .reach .ensures) ∙ c .if3 .left),
+    )
 
 pub judge-spec : {M : Type 1} → statement M
 judge-spec =

@@ -1,5 +1,6 @@
+-- `layout`: the infos left from a on decide, as long as those before fit.
 use Prim.Native.Nat.{_+_, _*_, _≤_}
-use mathlib.Core.Path.{_≡_, refl, sym, _∙_}
+use mathlib.Core.Path.{_≡_, sym, _∙_}
 use mathlib.Core.Bool.{true}
 use borrow.Author.Tests.{not-true, not-false, le-leb, lt-leb}
 use Rattle.x64.specs.X64.{infoCount, infoFits, infosFit, x64Layout}
@@ -8,10 +9,6 @@ use borrow.Author.Needs.{needs}
 use native.Mathlib.Omega.{arith}
 use Rattle.x64.proofs.layout.Statement.{statement}
 use Rattle.x64.proofs.layout.Tie as tie
-use Rattle.x64.proofs.layout.Reads as reads
-use Rattle.x64.proofs.layout.Lts as lts
-use Rattle.x64.proofs.info_fits.Reads as info-fits-reads
-use Rattle.x64.proofs.word.Reads as word-reads
 
 abbrev Inv-loop : tie.InvT-loop
 Inv-loop body infos m₀ a₀ m a = (a + 768 * m ≤ 24580) × (infosFit body m a ≡ x64Layout body)
@@ -19,82 +16,97 @@ Inv-loop body infos m₀ a₀ m a = (a + 768 * m ≤ 24580) × (infosFit body m 
 abbrev μ-loop : tie.MeasureT-loop
 μ-loop body infos m₀ a₀ m a = m
 
--- src/lib.rt:509:9
 word-requires : tie.Need-word-requires Inv-loop μ-loop
 word-requires c κs = search needs
 
--- src/lib.rt:511:9
 returns : tie.Need-returns Inv-loop μ-loop
 unfolding x64Layout
 returns c = rw (lt-leb 1 (infoCount (c .before .before .before .args .body .now)) (omega (arith, c .before .word .ensures)))
 
--- src/lib.rt:514:9
 returns-2 : tie.Need-returns-2 Inv-loop μ-loop
 unfolding x64Layout
-returns-2 c = rw (le-leb 1 (infoCount (c .before .before .before .before .args .body .now)) (omega (arith, c .before .before .word .ensures)), lt-leb (infoCount (c .before .before .before .before .args .body .now)) 32 (omega (arith, c .before .before .word .ensures)))
+returns-2 c =
+    let word = c .before .before .word in
+    let args = c .before .before .before .before .args in
+    rw (
+      le-leb 1 (infoCount (args .body .now)) (omega (arith, word .ensures)),
+      lt-leb (infoCount (args .body .now)) 32
+          (omega (arith, word .ensures)),
+    )
 
--- src/lib.rt:516:17
 cast-m : tie.Need-cast-m Inv-loop μ-loop
 cast-m c = search needs
 
--- src/lib.rt:518:5
 loop-holds : tie.Need-loop-holds Inv-loop μ-loop
-loop-holds c = (omega arith, rw (c .before .before .word .ensures) (layout-is (c .before .before .before .before .args .body .now) (omega (arith, c .before .before .word .ensures)) (omega (arith, c .before .before .word .ensures))))
+loop-holds c =
+    let word = c .before .before .word in (
+      omega arith,
+      rw (word .ensures)
+          (layout-is (c .before .before .before .before .args .body .now) (omega (arith, word .ensures))
+          (omega (arith, word .ensures))),
+    )
 
--- src/lib.rt:519:13
 info-fits-requires : tie.Need-info-fits-requires Inv-loop μ-loop
 info-fits-requires c κs = search needs
 
--- src/lib.rt:520:13
 returns-3 : tie.Need-returns-3 Inv-loop μ-loop
-returns-3 c = and-no (infoFits (c .before .before .before .before .before .before .before .before .args .body .now) (c .before .before .before .loop .a)) _ (sym (c .before .info-fits .ensures) ∙ not-true (c .before .info-fits .result) (c .if3 .taken)) ∙ sym (infos-fit-step (c .before .before .before .before .before .before .before .before .args .body .now) (c .before .before .before .loop .m) (c .before .before .before .loop .a) (search needs)) ∙ c .before .before .before .loop .inv .1
+returns-3 c =
+    let loop = c .before .before .before .loop in
+    let args = c .before .before .before .before .before .before .before .before .args in
+    and-no (infoFits (args .body .now) (loop .a)) _
+    (sym (c .before .info-fits .ensures) ∙ not-true (c .before .info-fits .result) (c .if3 .taken)) ∙ sym
+    (infos-fit-step (args .body .now) (loop .m) (loop .a) (search needs)) ∙ loop .inv .1
 
--- src/lib.rt:522:28
 add-word : tie.Need-add-word Inv-loop μ-loop
 add-word c = search needs
 
--- src/lib.rt:522:17
 word-requires-2 : tie.Need-word-requires-2 Inv-loop μ-loop
 word-requires-2 c κs = search needs
 
--- src/lib.rt:522:17
 cast-n : tie.Need-cast-n Inv-loop μ-loop
 cast-n c = search needs
 
--- src/lib.rt:523:13
 add-a : tie.Need-add-a Inv-loop μ-loop
 add-a c = record { fits = omega arith }
 
--- src/lib.rt:523:21
 mul-a : tie.Need-mul-a Inv-loop μ-loop
 mul-a c =
-    let t : infoFits (c .before .before .before .before .before .before .before .before .before .args .body .now) (c .before .before .before .before .loop .a) ≡ true = sym (c .before .before .info-fits .ensures) ∙ not-false (c .before .before .info-fits .result) (c .before .if3 .left) in
-    record { fits = omega (arith, count-small (c .before .before .before .before .before .before .before .before .before .args .body .now) (c .before .before .before .before .loop .a) (rw t tt), c .word2 .ensures) }
+    let info-fits = c .before .before .info-fits in
+    let loop = c .before .before .before .before .loop in
+    let args = c .before .before .before .before .before .before .before .before .before .args in
+    let t : infoFits (args .body .now) (loop .a) ≡ true = sym (info-fits .ensures) ∙ not-false (info-fits .result)
+    (c .before .if3 .left) in
+    record { fits = omega (arith, count-small (args .body .now) (loop .a) (rw t tt), c .word2 .ensures) }
 
--- src/lib.rt:523:13
 add-a-2 : tie.Need-add-a-2 Inv-loop μ-loop
 add-a-2 c =
-    let t : infoFits (c .before .before .before .before .before .before .before .before .before .args .body .now) (c .before .before .before .before .loop .a) ≡ true = sym (c .before .before .info-fits .ensures) ∙ not-false (c .before .before .info-fits .result) (c .before .if3 .left) in
-    record { fits = omega (arith, count-small (c .before .before .before .before .before .before .before .before .before .args .body .now) (c .before .before .before .before .loop .a) (rw t tt), c .word2 .ensures) }
+    let info-fits = c .before .before .info-fits in
+    let loop = c .before .before .before .before .loop in
+    let args = c .before .before .before .before .before .before .before .before .before .args in
+    let t : infoFits (args .body .now) (loop .a) ≡ true = sym (info-fits .ensures) ∙ not-false (info-fits .result)
+    (c .before .if3 .left) in
+    record { fits = omega (arith, count-small (args .body .now) (loop .a) (rw t tt), c .word2 .ensures) }
 
--- src/lib.rt:524:9
 sub-m : tie.Need-sub-m Inv-loop μ-loop
 sub-m c = search needs
 
--- src/lib.rt:518:5
 loop-less : tie.Need-loop-less Inv-loop μ-loop
 loop-less c = search needs
 
--- src/lib.rt:518:5
 loop-again : tie.Need-loop-again Inv-loop μ-loop
 loop-again c =
-    let t : infoFits (c .before .before .before .before .before .before .before .before .before .args .body .now) (c .before .before .before .before .loop .a) ≡ true = sym (c .before .before .info-fits .ensures) ∙ not-false (c .before .before .info-fits .result) (c .before .if3 .left) in
+    let info-fits = c .before .before .info-fits in
+    let loop = c .before .before .before .before .loop in
+    let args = c .before .before .before .before .before .before .before .before .before .args in
+    let t : infoFits (args .body .now) (loop .a) ≡ true = sym (info-fits .ensures) ∙ not-false (info-fits .result)
+    (c .before .if3 .left) in
     rw (c .word2 .ensures) (
-      info-bound (c .before .before .before .before .before .before .before .before .before .args .body .now) (c .before .before .before .before .loop .a) (c .before .before .before .before .loop .m) (rw t tt) (search needs) (c .before .before .before .before .loop .inv .0),
-      and-yes (infoFits (c .before .before .before .before .before .before .before .before .before .args .body .now) (c .before .before .before .before .loop .a)) _ t ∙ sym (infos-fit-step (c .before .before .before .before .before .before .before .before .before .args .body .now) (c .before .before .before .before .loop .m) (c .before .before .before .before .loop .a) (search needs)) ∙ c .before .before .before .before .loop .inv .1,
+      info-bound (args .body .now) (loop .a) (loop .m) (rw t tt) (search needs) (loop .inv .0),
+      and-yes
+          (infoFits (args .body .now) (loop .a)) _ t ∙ sym (infos-fit-step (args .body .now) (loop .m) (loop .a) (search needs)) ∙
+          loop .inv .1,
     )
 
--- src/lib.rt:506:1
 returns-4 : tie.Need-returns-4 Inv-loop μ-loop
 unfolding infosFit
 returns-4 c = let e : c .before .loop .m ≡ 0 = omega arith in rw e at (c .before .loop .inv .1)

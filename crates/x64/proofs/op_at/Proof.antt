@@ -1,41 +1,32 @@
+-- `op_at`: three words, then `op_of`.
 use Rattle.x64.specs.Index.{opAt}
-use native.Mathlib.Omega.{arith}
 use borrow.Author.Needs.{needs}
 use Rattle.x64.proofs.op_at.Statement.{statement}
 use Rattle.x64.proofs.op_at.Tie as tie
-use Rattle.x64.proofs.op_at.Reads as reads
-use Rattle.x64.proofs.op_at.Lts as lts
-use Rattle.x64.proofs.op_of.Reads as op-of-reads
-use Rattle.x64.proofs.word.Reads as word-reads
 
--- src/lib.rt:85:9
 word-requires : tie.Need-word-requires
 word-requires c κs = search needs
 
--- src/lib.rt:86:31
 add-word : tie.Need-add-word
 add-word c = search needs
 
--- src/lib.rt:86:9
 word-requires-2 : tie.Need-word-requires-2
 word-requires-2 c κs = search needs
 
--- src/lib.rt:87:28
 add-word-2 : tie.Need-add-word-2
 add-word-2 c = search needs
 
--- src/lib.rt:87:9
 word-requires-3 : tie.Need-word-requires-3
 word-requires-3 c κs = search needs
 
--- src/lib.rt:88:5
 op-of-requires : tie.Need-op-of-requires
 op-of-requires c κs = search needs
 
--- src/lib.rt:81:1
 returns : tie.Need-returns
 unfolding opAt
-returns c = rw (← c .before .before .before .word .ensures, ← c .before .before .word2 .ensures, ← c .before .word3 .ensures) (c .op-of .ensures)
+returns c =
+    rw (← c .before .before .before .word .ensures, ← c .before .before .word2 .ensures, ← c .before .word3 .ensures)
+    (c .op-of .ensures)
 
 pub op-at-spec : {M : Type 1} → statement M
 op-at-spec =

@@ -1,3 +1,4 @@
+-- `process_pe`: by the judgement; only an entry that is written is put.
 use mathlib.Core.Path.{refl, sym, _∙_}
 use Rattle.text.specs.Text.Laws.{put-none}
 use Rattle.x64.specs.X64.{x64Entry}
@@ -6,49 +7,45 @@ use native.Mathlib.Omega.{arith}
 use borrow.Author.Needs.{needs}
 use Rattle.x64.proofs.process_pe.Statement.{statement}
 use Rattle.x64.proofs.process_pe.Tie as tie
-use Rattle.x64.proofs.process_pe.Reads as reads
-use Rattle.x64.proofs.process_pe.Lts as lts
-use Rattle.x64.proofs.judge.Reads as judge-reads
-use Rattle.x64.proofs.put_entry.Reads as put-entry-reads
 
--- src/lib.rt:627:9
 judge-requires : tie.Need-judge-requires
 judge-requires c κs = search needs
 
--- src/lib.rt:629:24
 enum-known-judged : tie.Need-enum-known-judged
 enum-known-judged c = search needs
 
--- src/lib.rt:630:25
 enum-told : tie.Need-enum-told
 enum-told c = search needs
 
--- src/lib.rt:636:31
 enum-told-2 : tie.Need-enum-told-2
 enum-told-2 c = search needs
 
--- src/lib.rt:636:17
 put-entry-requires : tie.Need-put-entry-requires
-put-entry-requires c κs = written (c .before .before .before .before .before .before .args .limit) (c .before .before .before .before .before .before .args .body .now) (sym (c .before .before .before .judge .ensures) ∙ c .before .enum-told2 .given .1)
+put-entry-requires c κs =
+    let args = c .before .before .before .before .before .before .args in
+    written (args .limit) (args .body .now) (sym (c .before .before .before .judge .ensures) ∙ c .before .enum-told2 .given .1)
 
--- src/lib.rt:624:1
 returns : tie.Need-returns
 unfolding x64Entry
-returns c = rw (← c .before .before .before .judge .ensures, c .before .judged .given .1) (record { number-is = refl; next-is = refl; put = put-none (omega arith) (omega arith) })
+returns c =
+    rw (← c .before .before .before .judge .ensures, c .before .judged .given .1)
+    (record { number-is = refl; next-is = refl; put = put-none (omega arith) (omega arith) })
 
--- src/lib.rt:624:1
 returns-2 : tie.Need-returns-2
 unfolding x64Entry
-returns-2 c = rw (← c .before .before .judge .ensures, c .enum-told .given .1) (record { number-is = refl; next-is = refl; put = put-none (omega arith) (omega arith) })
+returns-2 c =
+    rw (← c .before .before .judge .ensures, c .enum-told .given .1)
+    (record { number-is = refl; next-is = refl; put = put-none (omega arith) (omega arith) })
 
--- src/lib.rt:624:1
 same-length : tie.Need-same-length
 same-length c = search needs
 
--- src/lib.rt:624:1
 returns-3 : tie.Need-returns-3
 unfolding x64Entry
-returns-3 c = rw (← c .before .before .before .before .before .before .judge .ensures, c .before .before .before .before .enum-told2 .given .1) (record { number-is = refl; next-is = refl; put = c .before .before .put-entry .ensures })
+returns-3 c =
+    let judge = c .before .before .before .before .before .before .judge in
+    rw (← judge .ensures, c .before .before .before .before .enum-told2 .given .1)
+    (record { number-is = refl; next-is = refl; put = c .before .before .put-entry .ensures })
 
 pub process-pe-spec : {M : Type 1} → statement M
 process-pe-spec =

@@ -1,3 +1,4 @@
+-- `put_cfa`: one rule; `difference` is the signed number.
 use mathlib.Core.Path.{ap, _∙_}
 use lib.IntN.{ℤ}
 use mir.Syntax.{w64}
@@ -7,33 +8,27 @@ use Rattle.text.specs.Text.Laws.{put-as}
 use Rattle.names.specs.Names.{peName}
 use Rattle.lines.specs.Lines.{rule, cfa, registerPlus, ruleText}
 use Rattle.lines.specs.Rules.{ruleOf, ruleName, regName, formOf}
-use native.Mathlib.Omega.{arith}
 use borrow.Author.Needs.{needs}
 use Rattle.x64.proofs.put_cfa.Statement.{statement}
 use Rattle.x64.proofs.put_cfa.Tie as tie
-use Rattle.x64.proofs.put_cfa.Reads as reads
-use Rattle.x64.proofs.put_cfa.Lts as lts
-use Rattle.lines.proofs.difference.Reads as difference-reads
-use Rattle.lines.proofs.put_rule.Reads as put-rule-reads
 
--- src/lib.rt:165:9
 difference-requires : tie.Need-difference-requires
 difference-requires c κs = search needs
 
--- src/lib.rt:169:5
 put-rule-requires : tie.Need-put-rule-requires
 put-rule-requires c κs = search needs
 
--- src/lib.rt:161:1
 same-length : tie.Need-same-length
 same-length c = search needs
 
--- src/lib.rt:161:1
 returns : tie.Need-returns
 unfolding ruleOf ruleName regName formOf
 returns c =
-    let f : SFits w64 (c .before .before .before .before .difference .result) = search needs in
-    put-as (c .before .before .put-rule .ensures) (ap (λ (z : ℤ). ruleText (rule cfa (registerPlus (peName (c .before .before .before .before .before .before .args .register)) z))) (toZ-ofZ f ∙ c .before .before .before .before .difference .ensures))
+    let difference = c .before .before .before .before .difference in
+    let args = c .before .before .before .before .before .before .args in
+    let f : SFits w64 (difference .result) = search needs in
+    put-as (c .before .before .put-rule .ensures)
+    (ap (λ (z : ℤ). ruleText (rule cfa (registerPlus (peName (args .register)) z))) (toZ-ofZ f ∙ difference .ensures))
 
 pub put-cfa-spec : {M : Type 1} → statement M
 put-cfa-spec = tie.close (tie.spec difference-requires put-rule-requires same-length returns)

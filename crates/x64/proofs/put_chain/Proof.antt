@@ -1,3 +1,4 @@
+-- `put_chain`: what the infos left put, behind what is put, is the whole (`ChainLeft`).
 use Rattle.text.specs.Text.Laws.{put-length}
 use Rattle.lines.specs.Lines.{rulesText}
 use Rattle.x64.specs.X64.{chain, run, opRules}
@@ -6,10 +7,6 @@ use borrow.Author.Needs.{needs}
 use native.Mathlib.Omega.{arith}
 use Rattle.x64.proofs.put_chain.Statement.{statement}
 use Rattle.x64.proofs.put_chain.Tie as tie
-use Rattle.x64.proofs.put_chain.Reads as reads
-use Rattle.x64.proofs.put_chain.Lts as lts
-use Rattle.x64.proofs.put_ops.Reads as put-ops-reads
-use Rattle.x64.proofs.word.Reads as word-reads
 
 abbrev Inv-loop : tie.InvT-loop
 Inv-loop out₀ at body p₀ s₀ a₀ m₀ out p s a m = ChainLeft body out₀ at (rulesText (run opRules 8 (chain body))) out p s a m
@@ -17,82 +14,82 @@ Inv-loop out₀ at body p₀ s₀ a₀ m₀ out p s a m = ChainLeft body out₀ 
 abbrev μ-loop : tie.MeasureT-loop
 μ-loop out₀ at body p₀ s₀ a₀ m₀ out p s a m = m
 
--- src/lib.rt:240:17
 word-requires : tie.Need-word-requires Inv-loop μ-loop
 word-requires c κs = search needs
 
--- src/lib.rt:240:17
 cast-m : tie.Need-cast-m Inv-loop μ-loop
 cast-m c = search needs
 
--- src/lib.rt:241:5
 loop-holds : tie.Need-loop-holds Inv-loop μ-loop
-loop-holds c = rw (c .word .ensures) (chain-all (c .before .before .before .pre .0) (c .before .before .before .pre .1) (omega arith) (omega arith))
+loop-holds c =
+    let pre = c .before .before .before .pre in
+    rw (c .word .ensures) (chain-all (pre .0) (pre .1) (omega arith) (omega arith))
 
--- src/lib.rt:242:13
 word-requires-2 : tie.Need-word-requires-2 Inv-loop μ-loop
 word-requires-2 c κs = search needs
 
--- src/lib.rt:243:33
 add-word : tie.Need-add-word Inv-loop μ-loop
 add-word c = search needs
 
--- src/lib.rt:243:13
 word-requires-3 : tie.Need-word-requires-3 Inv-loop μ-loop
 word-requires-3 c κs = search needs
 
--- src/lib.rt:244:28
 add-word-2 : tie.Need-add-word-2 Inv-loop μ-loop
 add-word-2 c = search needs
 
--- src/lib.rt:244:17
 word-requires-4 : tie.Need-word-requires-4 Inv-loop μ-loop
 word-requires-4 c κs = search needs
 
--- src/lib.rt:244:17
 cast-n : tie.Need-cast-n Inv-loop μ-loop
 cast-n c = search needs
 
--- src/lib.rt:245:59
 add-put-ops : tie.Need-add-put-ops Inv-loop μ-loop
 add-put-ops c = search needs
 
--- src/lib.rt:245:13
 put-ops-requires : tie.Need-put-ops-requires Inv-loop μ-loop
-put-ops-requires c κs = (omega arith, omega (arith, info-few (c .before .before .before .before .before .loop .inv) (search needs), c .before .word4 .ensures), search needs, rw (c .before .before .before .word2 .ensures, c .before .before .word3 .ensures, c .before .word4 .ensures) (info-reach (c .before .before .before .before .before .loop .inv) (search needs)))
+put-ops-requires c κs =
+    let loop = c .before .before .before .before .before .loop in (
+      omega arith,
+      omega (arith, info-few (loop .inv) (search needs), c .before .word4 .ensures),
+      search needs,
+      rw
+          (c .before .before .before .word2 .ensures, c .before .before .word3 .ensures, c .before .word4 .ensures)
+          (info-reach (loop .inv) (search needs)),
+    )
 
--- src/lib.rt:248:13
 add-a : tie.Need-add-a Inv-loop μ-loop
 add-a c = search needs
 
--- src/lib.rt:248:21
 mul-a : tie.Need-mul-a Inv-loop μ-loop
-mul-a c = record { fits = omega (arith, info-few (c .before .before .before .before .before .before .before .before .loop .inv) (search needs), c .before .before .before .before .word4 .ensures) }
+mul-a c =
+    let loop = c .before .before .before .before .before .before .before .before .loop in
+    record { fits = omega (arith, info-few (loop .inv) (search needs), c .before .before .before .before .word4 .ensures) }
 
--- src/lib.rt:248:13
 add-a-2 : tie.Need-add-a-2 Inv-loop μ-loop
-add-a-2 c = record { fits = omega (arith, info-few (c .before .before .before .before .before .before .before .before .loop .inv) (search needs), c .before .before .before .before .word4 .ensures) }
+add-a-2 c =
+    let loop = c .before .before .before .before .before .before .before .before .loop in
+    record { fits = omega (arith, info-few (loop .inv) (search needs), c .before .before .before .before .word4 .ensures) }
 
--- src/lib.rt:249:9
 sub-m : tie.Need-sub-m Inv-loop μ-loop
 sub-m c = search needs
 
--- src/lib.rt:241:5
 loop-less : tie.Need-loop-less Inv-loop μ-loop
 loop-less c = search needs
 
--- src/lib.rt:241:5
 loop-again : tie.Need-loop-again Inv-loop μ-loop
 loop-again c =
-    rw (c .before .before .before .before .word4 .ensures) (chain-turn (c .before .before .before .before .before .before .before .before .loop .inv) (search needs)
-    (rw (c .before .before .before .before .before .before .word2 .ensures, c .before .before .before .before .before .word3 .ensures, c .before .before .before .before .word4 .ensures) at (c .before .before .put-ops .ensures .0))
-    (rw (c .before .before .before .before .before .before .word2 .ensures, c .before .before .before .before .before .word3 .ensures, c .before .before .before .before .word4 .ensures) at (c .before .before .put-ops .ensures .1)))
+    let put-ops = c .before .before .put-ops in
+    let word4 = c .before .before .before .before .word4 in
+    let word3 = c .before .before .before .before .before .word3 in
+    let word2 = c .before .before .before .before .before .before .word2 in
+    let loop = c .before .before .before .before .before .before .before .before .loop in
+    rw (word4 .ensures)
+    (chain-turn (loop .inv) (search needs) (rw (word2 .ensures, word3 .ensures, word4 .ensures) at (put-ops .ensures .0))
+    (rw (word2 .ensures, word3 .ensures, word4 .ensures) at (put-ops .ensures .1)))
 
--- src/lib.rt:233:1
 returns : tie.Need-returns Inv-loop μ-loop
 returns c = chain-done (c .before .loop .inv) (search needs)
 
--- src/lib.rt:233:1
 same-length : tie.Need-same-length Inv-loop μ-loop
 same-length c = put-length (returns c)
 

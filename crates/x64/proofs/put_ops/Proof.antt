@@ -1,3 +1,4 @@
+-- `put_ops`: what the operations left put, behind what is put, is the whole (`OpsLeft`).
 use Prim.Native.Nat.{_+_}
 use mathlib.Core.Path.{refl, ap, _∙_}
 use Rattle.text.specs.Text.Laws.{left-all, put-length}
@@ -9,63 +10,57 @@ use borrow.Author.Needs.{needs}
 use native.Mathlib.Omega.{arith}
 use Rattle.x64.proofs.put_ops.Statement.{statement}
 use Rattle.x64.proofs.put_ops.Tie as tie
-use Rattle.x64.proofs.put_ops.Reads as reads
-use Rattle.x64.proofs.put_ops.Lts as lts
-use Rattle.x64.proofs.growth.Reads as growth-reads
-use Rattle.x64.proofs.op_at.Reads as op-at-reads
-use Rattle.x64.proofs.put_op.Reads as put-op-reads
 
 abbrev Inv-loop : tie.InvT-loop
-Inv-loop out₀ at body frame offset a n total p₀ s₀ k₀ out p s k = OpsLeft body frame offset a out₀ at (rulesText (run opRules total (opsRun body frame offset a n))) (total + growths (opsRun body frame offset a n)) out p s k
+Inv-loop out₀ at body frame offset a n total p₀ s₀ k₀ out p s k =
+    OpsLeft body frame offset a out₀ at (rulesText (run opRules total (opsRun body frame offset a n)))
+    (total + growths (opsRun body frame offset a n)) out p s k
 
 abbrev μ-loop : tie.MeasureT-loop
 μ-loop out₀ at body frame offset a n total p₀ s₀ k₀ out p s k = k
 
--- src/lib.rt:223:5
 loop-holds : tie.Need-loop-holds Inv-loop μ-loop
-loop-holds c = record { small = search needs; few = search needs; reach = c .before .before .pre .3; ends = refl; text = left-all (omega arith) (omega arith) }
+loop-holds c =
+    record
+    { small = search needs; few = search needs; reach = c .before .before .pre .3; ends = refl; text = left-all (omega arith) (omega arith) }
 
--- src/lib.rt:224:9
 sub-k : tie.Need-sub-k Inv-loop μ-loop
 sub-k c = search needs
 
--- src/lib.rt:225:49
 mul-op-at : tie.Need-mul-op-at Inv-loop μ-loop
 mul-op-at c = search needs
 
--- src/lib.rt:225:45
 add-op-at : tie.Need-add-op-at Inv-loop μ-loop
 add-op-at c = search needs
 
--- src/lib.rt:225:13
 op-at-requires : tie.Need-op-at-requires Inv-loop μ-loop
 op-at-requires c κs = search needs
 
--- src/lib.rt:226:9
 put-op-requires : tie.Need-put-op-requires Inv-loop μ-loop
 put-op-requires c κs = search needs
 
--- src/lib.rt:227:14
 growth-requires : tie.Need-growth-requires Inv-loop μ-loop
 growth-requires c κs = search needs
 
--- src/lib.rt:227:9
 add-s : tie.Need-add-s Inv-loop μ-loop
-add-s c = record { fits = omega (arith, ops-within (c .before .before .before .before .before .before .before .loop .inv) (search needs), c .growth .ensures ∙ ap growthOf (c .before .before .before .before .before .op-at .ensures)) }
+add-s c =
+    let op-at = c .before .before .before .before .before .op-at in
+    let loop = c .before .before .before .before .before .before .before .loop in
+    record { fits = omega (arith, ops-within (loop .inv) (search needs), c .growth .ensures ∙ ap growthOf (op-at .ensures)) }
 
--- src/lib.rt:223:5
 loop-less : tie.Need-loop-less Inv-loop μ-loop
 loop-less c = search needs
 
--- src/lib.rt:223:5
 loop-again : tie.Need-loop-again Inv-loop μ-loop
-loop-again c = rw (c .growth .ensures, c .before .before .before .before .before .op-at .ensures) (ops-turn (c .before .before .before .before .before .before .before .loop .inv) (search needs) (rw (c .before .before .before .before .before .op-at .ensures) at (c .before .before .before .put-op .ensures)))
+loop-again c =
+    let op-at = c .before .before .before .before .before .op-at in
+    let loop = c .before .before .before .before .before .before .before .loop in
+    rw (c .growth .ensures, op-at .ensures)
+    (ops-turn (loop .inv) (search needs) (rw (op-at .ensures) at (c .before .before .before .put-op .ensures)))
 
--- src/lib.rt:207:1
 returns : tie.Need-returns Inv-loop μ-loop
 returns c = ops-done (c .before .loop .inv) (search needs)
 
--- src/lib.rt:207:1
 same-length : tie.Need-same-length Inv-loop μ-loop
 same-length c = put-length (returns c .0)
 

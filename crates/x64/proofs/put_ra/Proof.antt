@@ -1,3 +1,4 @@
+-- `put_ra`: nothing, or one rule.
 use Rattle.text.specs.Text.Laws.{put-none}
 use Rattle.lines.specs.Lines.{rulesText}
 use Rattle.x64.specs.X64.{raRules}
@@ -6,24 +7,17 @@ use native.Mathlib.Omega.{arith}
 use borrow.Author.Needs.{needs}
 use Rattle.x64.proofs.put_ra.Statement.{statement}
 use Rattle.x64.proofs.put_ra.Tie as tie
-use Rattle.x64.proofs.put_ra.Reads as reads
-use Rattle.x64.proofs.put_ra.Lts as lts
-use Rattle.x64.proofs.put_return.Reads as put-return-reads
 
--- src/lib.rt:409:9
 returns : tie.Need-returns
 unfolding raRules rulesText
 returns c = rw (c .if1 .taken) (put-none (omega arith) (omega arith))
 
--- src/lib.rt:411:5
 put-return-requires : tie.Need-put-return-requires
 put-return-requires c κs = search needs
 
--- src/lib.rt:405:1
 same-length : tie.Need-same-length
 same-length c = search needs
 
--- src/lib.rt:405:1
 returns-2 : tie.Need-returns-2
 unfolding raRules
 returns-2 c = rw (c .before .before .before .before .if1 .left) (put-one _ (c .before .before .put-return .ensures))

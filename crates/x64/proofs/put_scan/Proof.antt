@@ -1,3 +1,4 @@
+-- `put_scan`: the CFA by whether a frame register is set.
 use mathlib.Core.Path.{ap}
 use lib.IntN.{ℤ}
 use Rattle.text.specs.Text.{ascii}
@@ -6,43 +7,36 @@ use Rattle.names.specs.Names.{peName, pe-x64}
 use Rattle.lines.specs.Lines.{rule, cfa, registerPlus, ruleText}
 use Rattle.x64.specs.Scan.{cfaOf}
 use Rattle.x64.proofs.Rules.{sub-none}
-use native.Mathlib.Omega.{arith}
 use borrow.Author.Needs.{needs}
 use Rattle.x64.proofs.put_scan.Statement.{statement}
 use Rattle.x64.proofs.put_scan.Tie as tie
-use Rattle.x64.proofs.put_scan.Reads as reads
-use Rattle.x64.proofs.put_scan.Lts as lts
-use Rattle.x64.proofs.put_cfa.Reads as put-cfa-reads
 
--- src/lib.rt:400:51
 cast-put-cfa : tie.Need-cast-put-cfa
 cast-put-cfa c = search needs
 
--- src/lib.rt:400:9
 put-cfa-requires : tie.Need-put-cfa-requires
 put-cfa-requires c κs = search needs
 
--- src/lib.rt:400:9
 same-length : tie.Need-same-length
 same-length c = search needs
 
--- src/lib.rt:400:9
 returns : tie.Need-returns
 unfolding cfaOf
 returns c = rw (c .before .before .before .before .before .if1 .taken) (c .before .before .put-cfa .ensures)
 
--- src/lib.rt:402:5
 put-cfa-requires-2 : tie.Need-put-cfa-requires-2
 put-cfa-requires-2 c κs = search needs
 
--- src/lib.rt:395:1
 same-length-2 : tie.Need-same-length-2
 same-length-2 c = search needs
 
--- src/lib.rt:395:1
 returns-2 : tie.Need-returns-2
 unfolding cfaOf peName pe-x64
-returns-2 c = rw (c .before .before .before .before .if1 .left) (put-as (c .before .before .put-cfa2 .ensures) (ap (λ (z : ℤ). ruleText (rule cfa (registerPlus (ascii "$rsp") z))) (sub-none (c .before .before .before .before .before .before .args .s .total))))
+returns-2 c =
+    let args = c .before .before .before .before .before .before .args in
+    rw (c .before .before .before .before .if1 .left)
+    (put-as (c .before .before .put-cfa2 .ensures)
+    (ap (λ (z : ℤ). ruleText (rule cfa (registerPlus (ascii "$rsp") z))) (sub-none (args .s .total))))
 
 pub put-scan-spec : {M : Type 1} → statement M
 put-scan-spec =

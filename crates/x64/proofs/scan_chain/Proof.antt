@@ -1,3 +1,4 @@
+-- `scan_chain`: scanning the infos left gives what scanning the chain gives (`ChainScan`).
 use Rattle.x64.specs.X64.{chain}
 use Rattle.x64.specs.Scan.{scanned, scanStart}
 use Rattle.x64.proofs.Passes.{ChainScan, scan-all, scan-few, info-turn, chain-scanned}
@@ -5,11 +6,6 @@ use borrow.Author.Needs.{needs}
 use native.Mathlib.Omega.{arith}
 use Rattle.x64.proofs.scan_chain.Statement.{statement}
 use Rattle.x64.proofs.scan_chain.Tie as tie
-use Rattle.x64.proofs.scan_chain.Reads as reads
-use Rattle.x64.proofs.scan_chain.Lts as lts
-use Rattle.x64.proofs.Scan.start.Reads as start-reads
-use Rattle.x64.proofs.scan_ops.Reads as scan-ops-reads
-use Rattle.x64.proofs.word.Reads as word-reads
 
 abbrev Inv-loop : tie.InvT-loop
 Inv-loop body s₀ a₀ m₀ s a m = ChainScan body (scanned scanStart (chain body)) s a m
@@ -17,79 +13,72 @@ Inv-loop body s₀ a₀ m₀ s a m = ChainScan body (scanned scanStart (chain bo
 abbrev μ-loop : tie.MeasureT-loop
 μ-loop body s₀ a₀ m₀ s a m = m
 
--- src/lib.rt:369:9
 start-requires : tie.Need-start-requires Inv-loop μ-loop
 start-requires c κs = search needs
 
--- src/lib.rt:371:17
 word-requires : tie.Need-word-requires Inv-loop μ-loop
 word-requires c κs = search needs
 
--- src/lib.rt:371:17
 cast-m : tie.Need-cast-m Inv-loop μ-loop
 cast-m c = search needs
 
--- src/lib.rt:372:5
 loop-holds : tie.Need-loop-holds Inv-loop μ-loop
 loop-holds c = rw (c .word .ensures, c .before .start .ensures) (scan-all (c .before .before .before .pre))
 
--- src/lib.rt:373:13
 word-requires-2 : tie.Need-word-requires-2 Inv-loop μ-loop
 word-requires-2 c κs = search needs
 
--- src/lib.rt:374:33
 add-word : tie.Need-add-word Inv-loop μ-loop
 add-word c = search needs
 
--- src/lib.rt:374:13
 word-requires-3 : tie.Need-word-requires-3 Inv-loop μ-loop
 word-requires-3 c κs = search needs
 
--- src/lib.rt:375:28
 add-word-2 : tie.Need-add-word-2 Inv-loop μ-loop
 add-word-2 c = search needs
 
--- src/lib.rt:375:17
 word-requires-4 : tie.Need-word-requires-4 Inv-loop μ-loop
 word-requires-4 c κs = search needs
 
--- src/lib.rt:375:17
 cast-n : tie.Need-cast-n Inv-loop μ-loop
 cast-n c = search needs
 
--- src/lib.rt:376:43
 add-scan-ops : tie.Need-add-scan-ops Inv-loop μ-loop
 add-scan-ops c = search needs
 
--- src/lib.rt:376:9
 scan-ops-requires : tie.Need-scan-ops-requires Inv-loop μ-loop
-scan-ops-requires c κs = (omega arith, omega (arith, scan-few (c .before .before .before .before .loop .inv) (search needs), c .word4 .ensures), search needs)
+scan-ops-requires c κs = (
+  omega arith,
+  omega (arith, scan-few (c .before .before .before .before .loop .inv) (search needs), c .word4 .ensures),
+  search needs,
+)
 
--- src/lib.rt:377:13
 add-a : tie.Need-add-a Inv-loop μ-loop
 add-a c = search needs
 
--- src/lib.rt:377:21
 mul-a : tie.Need-mul-a Inv-loop μ-loop
-mul-a c = record { fits = omega (arith, scan-few (c .before .before .before .before .before .loop .inv) (search needs), c .before .word4 .ensures) }
+mul-a c =
+    let loop = c .before .before .before .before .before .loop in
+    record { fits = omega (arith, scan-few (loop .inv) (search needs), c .before .word4 .ensures) }
 
--- src/lib.rt:377:13
 add-a-2 : tie.Need-add-a-2 Inv-loop μ-loop
-add-a-2 c = record { fits = omega (arith, scan-few (c .before .before .before .before .before .loop .inv) (search needs), c .before .word4 .ensures) }
+add-a-2 c =
+    let loop = c .before .before .before .before .before .loop in
+    record { fits = omega (arith, scan-few (loop .inv) (search needs), c .before .word4 .ensures) }
 
--- src/lib.rt:378:9
 sub-m : tie.Need-sub-m Inv-loop μ-loop
 sub-m c = search needs
 
--- src/lib.rt:372:5
 loop-less : tie.Need-loop-less Inv-loop μ-loop
 loop-less c = search needs
 
--- src/lib.rt:372:5
 loop-again : tie.Need-loop-again Inv-loop μ-loop
-loop-again c = rw (c .before .word4 .ensures) (info-turn (c .before .before .before .before .before .loop .inv) (search needs) (rw (c .before .before .before .word2 .ensures, c .before .before .word3 .ensures, c .before .word4 .ensures) at (c .scan-ops .ensures .0)) (c .scan-ops .ensures .1))
+loop-again c =
+    let loop = c .before .before .before .before .before .loop in
+    rw (c .before .word4 .ensures) (info-turn (loop .inv) (search needs)
+    (rw (c .before .before .before .word2 .ensures, c .before .before .word3 .ensures, c .before .word4 .ensures) at
+    (c .scan-ops .ensures .0)) (c .scan-ops .ensures .1))
 
--- src/lib.rt:365:1
 returns : tie.Need-returns Inv-loop μ-loop
 returns c = chain-scanned (c .before .loop .inv) (search needs)
 

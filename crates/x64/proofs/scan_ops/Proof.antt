@@ -1,15 +1,11 @@
+-- `scan_ops`: scanning the operations left gives what scanning all gives (`OpsScan`).
 use mathlib.Core.Path.{refl, ap, _∙_}
 use Rattle.x64.specs.Index.{opsRun}
 use Rattle.x64.specs.Scan.{scanned, scanStep}
 use Rattle.x64.proofs.Passes.{OpsScan, scan-turn, scan-done}
 use borrow.Author.Needs.{needs}
-use native.Mathlib.Omega.{arith}
 use Rattle.x64.proofs.scan_ops.Statement.{statement}
 use Rattle.x64.proofs.scan_ops.Tie as tie
-use Rattle.x64.proofs.scan_ops.Reads as reads
-use Rattle.x64.proofs.scan_ops.Lts as lts
-use Rattle.x64.proofs.Scan.step.Reads as step-reads
-use Rattle.x64.proofs.op_at.Reads as op-at-reads
 
 abbrev Inv-loop : tie.InvT-loop
 Inv-loop body frame offset a n s₀ k₀ s k = OpsScan body frame offset a (scanned s₀ (opsRun body frame offset a n)) s k
@@ -17,39 +13,33 @@ Inv-loop body frame offset a n s₀ k₀ s k = OpsScan body frame offset a (scan
 abbrev μ-loop : tie.MeasureT-loop
 μ-loop body frame offset a n s₀ k₀ s k = k
 
--- src/lib.rt:357:5
 loop-holds : tie.Need-loop-holds Inv-loop μ-loop
 loop-holds c = record { small = search needs; few = search needs; rest = refl }
 
--- src/lib.rt:358:9
 sub-k : tie.Need-sub-k Inv-loop μ-loop
 sub-k c = search needs
 
--- src/lib.rt:359:49
 mul-op-at : tie.Need-mul-op-at Inv-loop μ-loop
 mul-op-at c = search needs
 
--- src/lib.rt:359:45
 add-op-at : tie.Need-add-op-at Inv-loop μ-loop
 add-op-at c = search needs
 
--- src/lib.rt:359:13
 op-at-requires : tie.Need-op-at-requires Inv-loop μ-loop
 op-at-requires c κs = search needs
 
--- src/lib.rt:360:9
 step-requires : tie.Need-step-requires Inv-loop μ-loop
 step-requires c κs = search needs
 
--- src/lib.rt:357:5
 loop-less : tie.Need-loop-less Inv-loop μ-loop
 loop-less c = search needs
 
--- src/lib.rt:357:5
 loop-again : tie.Need-loop-again Inv-loop μ-loop
-loop-again c = scan-turn (c .before .before .before .loop .inv) (search needs) (c .step .ensures .0 ∙ ap (scanStep (c .before .before .before .loop .s)) (c .before .op-at .ensures)) (c .step .ensures .1)
+loop-again c =
+    let loop = c .before .before .before .loop in
+    scan-turn (loop .inv) (search needs) (c .step .ensures .0 ∙ ap (scanStep (loop .s)) (c .before .op-at .ensures))
+    (c .step .ensures .1)
 
--- src/lib.rt:351:1
 returns : tie.Need-returns Inv-loop μ-loop
 returns c = (scan-done (c .before .loop .inv) (search needs), search needs)
 

@@ -1,3 +1,4 @@
+-- `skipped`: one test for each reason, in order.
 use mathlib.Core.Path.{_≡_, sym, _∙_}
 use mathlib.Core.Bool.{true, false}
 use lib.Dec.{ltb}
@@ -8,55 +9,60 @@ use native.Mathlib.Omega.{arith}
 use borrow.Author.Needs.{needs}
 use Rattle.x64.proofs.skipped.Statement.{statement}
 use Rattle.x64.proofs.skipped.Tie as tie
-use Rattle.x64.proofs.skipped.Reads as reads
-use Rattle.x64.proofs.skipped.Lts as lts
-use Rattle.x64.proofs.all_zero.Reads as all-zero-reads
-use Rattle.x64.proofs.undecodable.Reads as undecodable-reads
-use Rattle.x64.proofs.word.Reads as word-reads
 
--- src/lib.rt:589:9
 word-requires : tie.Need-word-requires
 word-requires c κs = search needs
 
--- src/lib.rt:590:9
 word-requires-2 : tie.Need-word-requires-2
 word-requires-2 c κs = search needs
 
--- src/lib.rt:591:29
 word-requires-3 : tie.Need-word-requires-3
 word-requires-3 c κs = search needs
 
--- src/lib.rt:591:8
 all-zero-requires : tie.Need-all-zero-requires
 all-zero-requires c κs = search needs
 
--- src/lib.rt:592:9
 returns : tie.Need-returns
 unfolding x64Skipped
 returns c =
-    let ws = c .before .before .before .before .before .before .args .body .now in
-    let a : allZero (word ws 0) (word ws 1) (word ws 2) ≡ true = rw (c .before .before .before .before .word .ensures, c .before .before .before .word2 .ensures, c .before .before .word3 .ensures) at (sym (c .before .all-zero .ensures) ∙ c .if1 .taken) in
+    let args = c .before .before .before .before .before .before .args in
+    let ws = args .body .now in
+    let a : allZero (word ws 0) (word ws 1) (word ws 2) ≡ true = rw (
+      c .before .before .before .before .word .ensures,
+      c .before .before .before .word2 .ensures,
+      c .before .before .word3 .ensures,
+    ) at (sym (c .before .all-zero .ensures) ∙ c .if1 .taken) in
     or-yes (allZero (word ws 0) (word ws 1) (word ws 2)) _ a
 
--- src/lib.rt:595:9
 returns-2 : tie.Need-returns-2
 unfolding x64Skipped
 returns-2 c =
-    let ws = c .before .before .before .before .before .before .before .args .body .now in
-    let a : allZero (word ws 0) (word ws 1) (word ws 2) ≡ false = rw (c .before .before .before .before .before .word .ensures, c .before .before .before .before .word2 .ensures, c .before .before .before .word3 .ensures) at (sym (c .before .before .all-zero .ensures) ∙ c .before .if1 .left) in
-    or-yes (ltb (word ws 1) (word ws 0)) _ (lt-ltb (word ws 1) (word ws 0) (omega (arith, c .before .before .before .before .before .word .ensures, c .before .before .before .before .word2 .ensures))) ∙ or-no (allZero (word ws 0) (word ws 1) (word ws 2)) _ a
+    let word2 = c .before .before .before .before .word2 in
+    let word′ = c .before .before .before .before .before .word in
+    let args = c .before .before .before .before .before .before .before .args in
+    let ws = args .body .now in
+    let a : allZero (word ws 0) (word ws 1) (word ws 2) ≡ false = rw
+    (word′ .ensures, word2 .ensures, c .before .before .before .word3 .ensures) at
+    (sym (c .before .before .all-zero .ensures) ∙ c .before .if1 .left) in
+    or-yes (ltb (word ws 1) (word ws 0)) _ (lt-ltb (word ws 1) (word ws 0) (omega (arith, word′ .ensures, word2 .ensures))) ∙
+    or-no (allZero (word ws 0) (word ws 1) (word ws 2)) _ a
 
--- src/lib.rt:597:5
 undecodable-requires : tie.Need-undecodable-requires
 undecodable-requires c κs = search needs
 
--- src/lib.rt:585:1
 returns-3 : tie.Need-returns-3
 unfolding x64Skipped
 returns-3 c =
-    let ws = c .before .before .before .before .before .before .before .before .args .body .now in
-    let a : allZero (word ws 0) (word ws 1) (word ws 2) ≡ false = rw (c .before .before .before .before .before .before .word .ensures, c .before .before .before .before .before .word2 .ensures, c .before .before .before .before .word3 .ensures) at (sym (c .before .before .before .all-zero .ensures) ∙ c .before .before .if1 .left) in
-    c .undecodable .ensures ∙ or-no (ltb (word ws 1) (word ws 0)) _ (le-ltb (word ws 1) (word ws 0) (omega (arith, c .before .before .before .before .before .before .word .ensures, c .before .before .before .before .before .word2 .ensures))) ∙ or-no (allZero (word ws 0) (word ws 1) (word ws 2)) _ a
+    let word2 = c .before .before .before .before .before .word2 in
+    let word′ = c .before .before .before .before .before .before .word in
+    let args = c .before .before .before .before .before .before .before .before .args in
+    let ws = args .body .now in
+    let a : allZero (word ws 0) (word ws 1) (word ws 2) ≡ false = rw
+    (word′ .ensures, word2 .ensures, c .before .before .before .before .word3 .ensures) at
+    (sym (c .before .before .before .all-zero .ensures) ∙ c .before .before .if1 .left) in
+    c .undecodable .ensures ∙ or-no (ltb (word ws 1) (word ws 0)) _
+    (le-ltb (word ws 1) (word ws 0) (omega (arith, word′ .ensures, word2 .ensures))) ∙ or-no
+    (allZero (word ws 0) (word ws 1) (word ws 2)) _ a
 
 pub skipped-spec : {M : Type 1} → statement M
 skipped-spec =

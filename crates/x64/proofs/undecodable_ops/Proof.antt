@@ -1,3 +1,4 @@
+-- `undecodable_ops`: the operations left from a on decide, as long as none is found.
 use Prim.Native.Nat.{_+_, _*_}
 use mathlib.Core.Path.{_≡_, refl, sym, _∙_}
 use lib.Dec.{eqb}
@@ -8,9 +9,6 @@ use borrow.Author.Needs.{needs}
 use native.Mathlib.Omega.{arith}
 use Rattle.x64.proofs.undecodable_ops.Statement.{statement}
 use Rattle.x64.proofs.undecodable_ops.Tie as tie
-use Rattle.x64.proofs.undecodable_ops.Reads as reads
-use Rattle.x64.proofs.undecodable_ops.Lts as lts
-use Rattle.x64.proofs.word.Reads as word-reads
 
 abbrev Inv-loop : tie.InvT-loop
 Inv-loop body from n a₀ k₀ a k = (a + 3 * k ≡ from + 3 * n) × (undecodableOps body a k ≡ undecodableOps body from n)
@@ -18,43 +16,39 @@ Inv-loop body from n a₀ k₀ a k = (a + 3 * k ≡ from + 3 * n) × (undecodabl
 abbrev μ-loop : tie.MeasureT-loop
 μ-loop body from n a₀ k₀ a k = k
 
--- src/lib.rt:537:5
 loop-holds : tie.Need-loop-holds Inv-loop μ-loop
 loop-holds c = (refl, refl)
 
--- src/lib.rt:538:12
 word-requires : tie.Need-word-requires Inv-loop μ-loop
 word-requires c κs = search needs
 
--- src/lib.rt:539:13
 returns : tie.Need-returns Inv-loop μ-loop
 returns c =
+    let args = c .before .before .before .before .before .args in
     let l = c .before .before .before .loop in
-    let x = word (c .before .before .before .before .before .args .body .now) (l .a) in
-    or-yes (eqb x 8) _ (eq-eqb x 8 (sym (c .before .word .ensures) ∙ c .if1 .taken)) ∙ sym (undecodable-ops-step (c .before .before .before .before .before .args .body .now) (l .a) (l .k) (search needs)) ∙ l .inv .1
+    let x = word (args .body .now) (l .a) in
+    or-yes (eqb x 8) _ (eq-eqb x 8 (sym (c .before .word .ensures) ∙ c .if1 .taken)) ∙ sym
+    (undecodable-ops-step (args .body .now) (l .a) (l .k) (search needs)) ∙ l .inv .1
 
--- src/lib.rt:541:9
 add-a : tie.Need-add-a Inv-loop μ-loop
 add-a c = search needs
 
--- src/lib.rt:542:9
 sub-k : tie.Need-sub-k Inv-loop μ-loop
 sub-k c = search needs
 
--- src/lib.rt:537:5
 loop-less : tie.Need-loop-less Inv-loop μ-loop
 loop-less c = search needs
 
--- src/lib.rt:537:5
 loop-again : tie.Need-loop-again Inv-loop μ-loop
 loop-again c =
+    let args = c .before .before .before .before .before .args in
     let l = c .before .before .before .loop in
-    let x = word (c .before .before .before .before .before .args .body .now) (l .a) in (
+    let x = word (args .body .now) (l .a) in (
       omega arith,
-      or-no (eqb x 8) _ (ne-eqb x 8 (λ q. c .if1 .left (c .before .word .ensures ∙ q))) ∙ sym (undecodable-ops-step (c .before .before .before .before .before .args .body .now) (l .a) (l .k) (search needs)) ∙ l .inv .1,
+      or-no (eqb x 8) _ (ne-eqb x 8 (λ q. c .if1 .left (c .before .word .ensures ∙ q))) ∙ sym
+          (undecodable-ops-step (args .body .now) (l .a) (l .k) (search needs)) ∙ l .inv .1,
     )
 
--- src/lib.rt:531:1
 returns-2 : tie.Need-returns-2 Inv-loop μ-loop
 unfolding undecodableOps
 returns-2 c = let e : c .before .loop .k ≡ 0 = omega arith in rw e at (c .before .loop .inv .1)

@@ -1,26 +1,19 @@
+-- `word`: inside the body the word that stands there, and 0 past its end.
 use mathlib.Core.Path.{sym}
 use lib.ListN.{List·getD-eq-default}
-use Rattle.x64.specs.X64.{word}
-use native.Mathlib.Omega.{arith}
 use borrow.Author.Needs.{needs}
 use Rattle.x64.proofs.word.Statement.{statement}
 use Rattle.x64.proofs.word.Tie as tie
-use Rattle.x64.proofs.word.Reads as reads
-use Rattle.x64.proofs.word.Lts as lts
 
--- src/lib.rt:60:16
 mul-result : tie.Need-mul-result
 mul-result c = search needs
 
--- src/lib.rt:60:16
 shared-slice-read-result : tie.Need-shared-slice-read-result
 shared-slice-read-result c = search needs
 
--- src/lib.rt:60:9
 returns : tie.Need-returns
 returns c = search needs
 
--- src/lib.rt:56:1
 returns-2 : tie.Need-returns-2
 returns-2 c = sym (List·getD-eq-default (c .before .args .body .now) 0 (search needs))
 

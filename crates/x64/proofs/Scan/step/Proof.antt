@@ -1,57 +1,57 @@
+-- `Scan::step`: lost before, a value or a total out of reach, or on (`step-lost`, `step-value`, `step-total`, `step-on`).
 use Prim.Native.Nat.{_+_, _^_, _<_}
-use mathlib.Core.Path.{_≡_, ap, _∙_}
+use mathlib.Core.Path.{ap, _∙_}
 use Rattle.x64.specs.X64.{growthOf, valueOf}
 use Rattle.x64.specs.Scan.{lose, advance, growth-small, step-lost, step-value, step-total, step-on, advance-total}
 use native.Mathlib.Omega.{arith}
 use borrow.Author.Needs.{needs}
 use Rattle.x64.proofs.Scan.step.Statement.{statement}
 use Rattle.x64.proofs.Scan.step.Tie as tie
-use Rattle.x64.proofs.Scan.step.Reads as reads
-use Rattle.x64.proofs.Scan.step.Lts as lts
-use Rattle.x64.proofs.Scan.advance.Reads as advance-reads
-use Rattle.x64.proofs.Scan.lose.Reads as lose-reads
-use Rattle.x64.proofs.growth.Reads as growth-reads
-use Rattle.x64.proofs.value_of.Reads as value-of-reads
 
--- src/lib.rt:338:13
 returns : tie.Need-returns
 returns c = (step-lost (c .before .args .self) (c .before .args .op) (c .if1 .taken), search needs)
 
--- src/lib.rt:340:21
 value-of-requires : tie.Need-value-of-requires
 value-of-requires c κs = search needs
 
--- src/lib.rt:341:13
 lose-requires : tie.Need-lose-requires
 lose-requires c κs = search needs
 
--- src/lib.rt:341:13
 returns-2 : tie.Need-returns-2
 unfolding lose
-returns-2 c = (c .lose .ensures ∙ step-value (c .before .before .before .before .args .self) (c .before .before .before .before .args .op) (c .before .before .before .if1 .left) (omega (arith, c .before .before .value-of .ensures)), rw (c .lose .ensures) (search needs))
+returns-2 c =
+    let args = c .before .before .before .before .args in (
+      c .lose .ensures ∙ step-value (args .self) (args .op) (c .before .before .before .if1 .left)
+          (omega (arith, c .before .before .value-of .ensures)),
+      rw (c .lose .ensures) (search needs),
+    )
 
--- src/lib.rt:343:34
 growth-requires : tie.Need-growth-requires
 growth-requires c κs = search needs
 
--- src/lib.rt:343:21
 add-total : tie.Need-add-total
-add-total c = record { fits = omega (arith, growth-small (c .before .before .before .before .before .args .op), c .before .growth .ensures, c .before .before .before .value-of .ensures) }
+add-total c =
+    let args = c .before .before .before .before .before .args in
+    record
+    { fits = omega (arith, growth-small (args .op), c .before .growth .ensures, c .before .before .before .value-of .ensures) }
 
--- src/lib.rt:345:13
 lose-requires-2 : tie.Need-lose-requires-2
 lose-requires-2 c κs = search needs
 
--- src/lib.rt:345:13
 returns-3 : tie.Need-returns-3
 unfolding lose
-returns-3 c = (c .lose2 .ensures ∙ step-total (c .before .before .before .before .before .before .before .args .self) (c .before .before .before .before .before .before .before .args .op) (c .before .before .before .before .before .before .if1 .left) (omega (arith, c .before .before .before .before .before .value-of .ensures)) (omega (arith, c .before .before .before .growth .ensures)), rw (c .lose2 .ensures) (search needs))
+returns-3 c =
+    let value-of = c .before .before .before .before .before .value-of in
+    let if1 = c .before .before .before .before .before .before .if1 in
+    let args = c .before .before .before .before .before .before .before .args in (
+      c .lose2 .ensures ∙ step-total (args .self) (args .op) (if1 .left) (omega (arith, value-of .ensures))
+          (omega (arith, c .before .before .before .growth .ensures)),
+      rw (c .lose2 .ensures) (search needs),
+    )
 
--- src/lib.rt:347:9
 advance-requires : tie.Need-advance-requires
 advance-requires c κs = search needs
 
--- src/lib.rt:333:5
 returns-4 : tie.Need-returns-4
 returns-4 c =
     let s = c .before .before .before .before .before .before .before .args .self in
