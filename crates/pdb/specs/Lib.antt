@@ -1,0 +1,3 @@
+pub mod Pdb
+pub mod Sorted
+pub mod Index
