@@ -32,7 +32,7 @@ range-fits-requires : tie.Need-range-fits-requires Inv-loop μ-loop
 range-fits-requires c κs = search needs
 
 returns : tie.Need-returns Inv-loop μ-loop
-returns c = 
+returns c =
     let ws = c .before .before .before .before .before .before .args .body .now in let l = c .before .before .before .before .loop in
     let f : rangeFits (rangeAt ws (l .a)) ≡ false = rw (c .before .before .range-at .ensures) at (sym (c .before .range-fits .ensures) ∙ not-true (c .before .range-fits .result) (c .if1 .taken)) in
     and-no (rangeFits (rangeAt ws (l .a))) _ f ∙ sym (fits-step ws (l .a) (l .k) (search needs)) ∙ l .inv .2
@@ -41,7 +41,7 @@ starts-apart-requires : tie.Need-starts-apart-requires Inv-loop μ-loop
 starts-apart-requires c κs = search needs
 
 returns-2 : tie.Need-returns-2 Inv-loop μ-loop
-returns-2 c = 
+returns-2 c =
     let ws = c .before .before .before .before .before .before .before .before .args .body .now in let l = c .before .before .before .before .before .before .loop in
     let f : rangeFits (rangeAt ws (l .a)) ≡ true = rw (c .before .before .before .before .range-at .ensures) at (sym (c .before .before .before .range-fits .ensures) ∙ not-false (c .before .before .before .range-fits .result) (c .before .before .if1 .left)) in
     let g : apart (startOf (rangeAt ws (l .a))) (ranges ws (l .a + 2) (l .k - 1)) ≡ false = rw (c .before .before .before .before .range-at .ensures) at (sym (c .before .starts-apart .ensures) ∙ not-true (c .before .starts-apart .result) (c .if2 .taken)) in
@@ -52,12 +52,15 @@ loop-less : tie.Need-loop-less Inv-loop μ-loop
 loop-less c = search needs
 
 loop-again : tie.Need-loop-again Inv-loop μ-loop
-loop-again c = 
+loop-again c =
     let ws = c .before .before .before .before .before .before .before .before .args .body .now in let l = c .before .before .before .before .before .before .loop in
     let f : rangeFits (rangeAt ws (l .a)) ≡ true = rw (c .before .before .before .before .range-at .ensures) at (sym (c .before .before .before .range-fits .ensures) ∙ not-false (c .before .before .before .range-fits .result) (c .before .before .if1 .left)) in
-    let g : apart (startOf (rangeAt ws (l .a))) (ranges ws (l .a + 2) (l .k - 1)) ≡ true = rw (c .before .before .before .before .range-at .ensures) at (sym (c .before .starts-apart .ensures) ∙ not-false (c .before .starts-apart .result) (c .if2 .left)) in
-    (omega arith, omega arith, and-yes (apart (startOf (rangeAt ws (l .a))) (ranges ws (l .a + 2) (l .k - 1))) _ g ∙ and-yes (rangeFits (rangeAt ws (l .a))) _ f
-    ∙ sym (fits-step ws (l .a) (l .k) (search needs)) ∙ l .inv .2)
+    let g : apart (startOf (rangeAt ws (l .a))) (ranges ws (l .a + 2) (l .k - 1)) ≡ true = rw (c .before .before .before .before .range-at .ensures) at (sym (c .before .starts-apart .ensures) ∙ not-false (c .before .starts-apart .result) (c .if2 .left)) in (
+      omega arith,
+      omega arith,
+      and-yes (apart (startOf (rangeAt ws (l .a))) (ranges ws (l .a + 2) (l .k - 1))) _ g ∙ and-yes (rangeFits (rangeAt ws (l .a))) _ f
+          ∙ sym (fits-step ws (l .a) (l .k) (search needs)) ∙ l .inv .2,
+    )
 
 returns-3 : tie.Need-returns-3 Inv-loop μ-loop
 unfolding ranges rangesFit differ
