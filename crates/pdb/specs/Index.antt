@@ -81,6 +81,10 @@ infos-append ws (x ∷ xs) ys = rw (infos-append ws xs ys) (sym (append-assoc (i
 
 -- ---- where the lists lie
 
+-- the prolog ranges, or the code ranges
+unfoldable pub listed : List ℕ → Bool → List Range
+listed ws prolog = cond prolog (prologs ws) (codes ws)
+
 pub prologs-at : (ws : List ℕ) (p : ℕ) → p ≡ word ws 12 → ranges ws 15 p ≡ prologs ws
 unfolding prologs
 prologs-at ws p e = rw e
