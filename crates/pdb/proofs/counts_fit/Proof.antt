@@ -1,0 +1,33 @@
+-- `counts_fit`: test by test.
+use borrow.Author.Tests.{le-leb, lt-leb}
+use Rattle.pdb.specs.Pdb.{word, countsFit}
+use native.Mathlib.Omega.{arith}
+use borrow.Author.Needs.{needs}
+use Rattle.pdb.proofs.counts_fit.Statement.{statement}
+use Rattle.pdb.proofs.counts_fit.Tie as tie
+
+word-requires : tie.Need-word-requires
+word-requires c κs = search needs
+
+returns : tie.Need-returns
+unfolding countsFit
+returns c = rw (lt-leb (word (c .before .before .before .args .body .now) 12) 16 (omega (arith, c .before .word .ensures)))
+
+word-requires-2 : tie.Need-word-requires-2
+word-requires-2 c κs = search needs
+
+returns-2 : tie.Need-returns-2
+unfolding countsFit
+returns-2 c = rw (le-leb (word (c .before .before .before .before .before .args .body .now) 12) 16 (omega (arith, c .before .before .before .word .ensures)), lt-leb (word (c .before .before .before .before .before .args .body .now) 13) 16 (omega (arith, c .before .word2 .ensures)))
+
+length-fits-requires : tie.Need-length-fits-requires
+length-fits-requires c κs = search needs
+
+returns-3 : tie.Need-returns-3
+unfolding countsFit
+returns-3 c = rw (le-leb (word (c .before .before .before .before .before .before .args .body .now) 12) 16 (omega (arith, c .before .before .before .before .word .ensures)), le-leb (word (c .before .before .before .before .before .before .args .body .now) 13) 16 (omega (arith, c .before .before .word2 .ensures))) (c .length-fits .ensures)
+
+pub counts-fit-spec : {M : Type 1} → statement M
+counts-fit-spec =
+    tie.close
+    (tie.spec word-requires returns word-requires-2 returns-2 length-fits-requires returns-3)

@@ -1,0 +1,24 @@
+-- `has_program`: test by test.
+use mathlib.Core.Path.{sym, _∙_}
+use borrow.Author.Tests.{eq-eqb, ne-eqb}
+use Rattle.pdb.specs.Pdb.{word, hasProgram}
+use borrow.Author.Needs.{needs}
+use Rattle.pdb.proofs.has_program.Statement.{statement}
+use Rattle.pdb.proofs.has_program.Tie as tie
+
+word-requires : tie.Need-word-requires
+word-requires c κs = search needs
+
+word-requires-2 : tie.Need-word-requires-2
+word-requires-2 c κs = search needs
+
+returns : tie.Need-returns
+unfolding hasProgram
+returns c = rw (c .before .word2 .ensures, eq-eqb (word (c .before .before .before .before .args .body .now) 10) 1 (sym (c .before .before .word .ensures) ∙ c .if1 .taken))
+
+returns-2 : tie.Need-returns-2
+unfolding hasProgram
+returns-2 c = rw (ne-eqb (word (c .before .before .before .before .args .body .now) 10) 1 (λ e. c .if1 .left (c .before .before .word .ensures ∙ e)))
+
+pub has-program-spec : {M : Type 1} → statement M
+has-program-spec = tie.close (tie.spec word-requires word-requires-2 returns returns-2)

@@ -1,0 +1,44 @@
+-- `judge`: in the order of the tests.
+use mathlib.Core.Path.{sym, _∙_}
+use borrow.Author.Tests.{not-true, not-false}
+use Rattle.pdb.specs.Pdb.{pdbJudged}
+use borrow.Author.Needs.{needs}
+use Rattle.pdb.proofs.judge.Statement.{statement}
+use Rattle.pdb.proofs.judge.Tie as tie
+
+layout-requires : tie.Need-layout-requires
+layout-requires c κs = search needs
+
+returns : tie.Need-returns
+unfolding pdbJudged
+returns c = rw (sym (c .before .layout .ensures) ∙ not-true (c .before .layout .result) (c .if1 .taken))
+
+skipped-requires : tie.Need-skipped-requires
+skipped-requires c κs = search needs
+
+returns-2 : tie.Need-returns-2
+unfolding pdbJudged
+returns-2 c = rw (sym (c .before .before .before .layout .ensures) ∙ not-false (c .before .before .before .layout .result) (c .before .before .if1 .left), sym (c .before .skipped .ensures) ∙ c .if2 .taken)
+
+reach-requires : tie.Need-reach-requires
+reach-requires c κs = search needs
+
+returns-3 : tie.Need-returns-3
+unfolding pdbJudged
+returns-3 c = rw (sym (c .before .before .before .before .before .layout .ensures) ∙ not-false (c .before .before .before .before .before .layout .result) (c .before .before .before .before .if1 .left), sym (c .before .before .before .skipped .ensures) ∙ c .before .before .if2 .left, sym (c .before .reach .ensures) ∙ not-true (c .before .reach .result) (c .if3 .taken))
+
+returns-4 : tie.Need-returns-4
+unfolding pdbJudged
+returns-4 c = rw (sym (c .before .before .before .before .before .layout .ensures) ∙ not-false (c .before .before .before .before .before .layout .result) (c .before .before .before .before .if1 .left), sym (c .before .before .before .skipped .ensures) ∙ c .before .before .if2 .left, sym (c .before .reach .ensures) ∙ not-false (c .before .reach .result) (c .if3 .left))
+
+pub judge-spec : {M : Type 1} → statement M
+judge-spec =
+    tie.close
+    (tie.spec
+    layout-requires
+    returns
+    skipped-requires
+    returns-2
+    reach-requires
+    returns-3
+    returns-4)

@@ -1,0 +1,27 @@
+-- `skipped`: by the code size, then by the last entry.
+use borrow.Author.Tests.{lt-ltb, le-ltb}
+use Rattle.pdb.specs.Pdb.{word, pdbSkipped}
+use native.Mathlib.Omega.{arith}
+use borrow.Author.Needs.{needs}
+use Rattle.pdb.proofs.skipped.Statement.{statement}
+use Rattle.pdb.proofs.skipped.Tie as tie
+
+word-requires : tie.Need-word-requires
+word-requires c κs = search needs
+
+returns : tie.Need-returns
+unfolding pdbSkipped
+returns c = rw (lt-ltb 2147483647 (word (c .before .before .before .args .body .now) 2) (omega (arith, c .before .word .ensures)))
+
+own-requires : tie.Need-own-requires
+own-requires c κs = search needs
+
+repeated-requires : tie.Need-repeated-requires
+repeated-requires c κs = search needs
+
+returns-2 : tie.Need-returns-2
+unfolding pdbSkipped
+returns-2 c = rw (le-ltb 2147483647 (word (c .before .before .before .before .before .args .body .now) 2) (omega (arith, c .before .before .before .word .ensures)), ← c .before .own .ensures) (c .repeated .ensures)
+
+pub skipped-spec : {M : Type 1} → statement M
+skipped-spec = tie.close (tie.spec word-requires returns own-requires repeated-requires returns-2)
