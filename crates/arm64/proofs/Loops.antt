@@ -1,20 +1,19 @@
 -- What holds at each turn of the two loops that run the operations: what is left from here gives what all gives.
-use mathlib.Core.Path.{_≡_, refl, sym, ap, _∙_}
-use Prim.Native.Nat.{ℕ, zero, suc, _+_, _-_, _*_, _^_, _≤_, _<_}
+use mathlib.Core.Path.{_≡_}
+use Prim.Native.Nat.{ℕ, suc, _+_, _-_, _*_, _≤_, _<_}
 use native.Mathlib.Omega.{arith}
 use native.Mathlib.Numerals.{add-one}
 use mathlib.Core.Bool.{Bool, true, false, _&&_}
-use mathlib.Core.List.{List, [], _∷_, _++_}
-use lib.ListN.{length}
+use mathlib.Core.List.{List}
 use lib.Dec.{T}
-use Rattle.text.specs.Text.{Put, Left, MAX}
-use Rattle.text.specs.Text.Laws.{left-all, left-put, left-as, left-none}
+use Rattle.text.specs.Text.{Put, Left}
+use Rattle.text.specs.Text.Laws.{left-put, left-none}
 use Rattle.text.specs.Tests.{and-l, and-r}
 use Rattle.lines.specs.Lines.{lineText, render}
 use Rattle.arm64.specs.declared.Op.{Op}
 use Rattle.arm64.specs.declared.BreakpadEncoder.{BreakpadEncoder}
-use Rattle.arm64.specs.Arm64.{word, startEncoder, stepped, valueOf, fits, armRules, armLine, run, inReach}
-use Rattle.arm64.specs.Index.{opAt, opsRun, ops-step, Small, Printable, small-start, line-bounds}
+use Rattle.arm64.specs.Arm64.{stepped, valueOf, fits, armRules, armLine, run, inReach}
+use Rattle.arm64.specs.Index.{opAt, opsRun, ops-step, Small, Printable, line-bounds}
 
 -- the operation that is run next, where k are left
 abbrev pub next : List ℕ → ℕ → Op

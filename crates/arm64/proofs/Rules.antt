@@ -5,7 +5,7 @@ use native.Mathlib.Omega.{arith}
 use mathlib.Core.Bool.{Bool, true, false, not, cond, _&&_}
 use mathlib.Core.List.{List, [], _∷_, _++_, append-nil, append-assoc}
 use lib.IntN.{pos, subℕ}
-use lib.Dec.{T, eqb}
+use lib.Dec.{eqb}
 use Rattle.text.specs.Text.{ascii, Put}
 use Rattle.text.specs.Text.Laws.{put-as, _⨾_}
 use Rattle.text.specs.Tests.{above as above′, is-false, eqw, and-r}

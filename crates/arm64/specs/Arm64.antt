@@ -7,7 +7,7 @@ use lib.ListN.{length, getD}
 use lib.IntN.{pos, subℕ}
 use lib.Dec.{ltb, leb, eqb}
 use Rattle.text.specs.Text.{ascii}
-use Rattle.text.specs.Tests.{all, eqw}
+use Rattle.text.specs.Tests.{eqw}
 use Rattle.names.specs.Names.{letterOf, arm64Name}
 use Rattle.lines.specs.Lines.{Bytes, Rule, rule, register, registerPlus, atCfaPlus, cfa, Line, init, later, render, Lines·open}
 use Rattle.lines.specs.Reach.{inside}

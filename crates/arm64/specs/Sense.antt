@@ -1,27 +1,26 @@
 -- The sense of an ARM64 entry (document 01, "Sense" and "ARM64 body"): its lines, with each operation's T by a sum over those run before it, and
 -- save-next by the last earlier pair. Proved below: the text as the encoder runs is these lines' text, and every line is well formed.
-use mathlib.Core.Path.{_≡_, refl, sym, ap, _∙_}
-use Prim.Native.Nat.{ℕ, zero, suc, _+_, _*_}
+use mathlib.Core.Path.{_≡_, refl, ap}
+use Prim.Native.Nat.{ℕ, zero, suc, _+_}
 use native.Mathlib.Omega.{arith}
-use mathlib.Core.Bool.{Bool, true, false, cond, _&&_}
+use mathlib.Core.Bool.{Bool, true, false, _&&_}
 use mathlib.Core.List.{List, [], _∷_, _++_}
 use lib.ListN.{length}
-use lib.IntN.{pos, subℕ}
 use lib.Dec.{T, eqb}
 use Rattle.text.specs.Text.{ascii}
-use Rattle.text.specs.Tests.{is-true, all, all-append, and-l, both}
+use Rattle.text.specs.Tests.{all, all-append, and-l, both}
 use Rattle.names.specs.Names.{arm64Name}
-use Rattle.lines.specs.Lines.{Rule, rule, register, registerPlus, atCfaPlus, cfa, Line, init, later, render, nameOk, ruleOk, lineOk}
+use Rattle.lines.specs.Lines.{Rule, rule, register, cfa, Line, render, nameOk, ruleOk, lineOk}
 use Rattle.lines.specs.Rules.Laws.{arm64-ok}
 use Rattle.entry.specs.declared.Judged.{Judged}
 use Rattle.entry.specs.declared.Judged.the-variants.{Refuse, Skip, Write}
 use Rattle.entry.specs.declared.Last.{Last}
-use Rattle.entry.specs.Entry.{Entry, comesTo, ifWritten}
+use Rattle.entry.specs.Entry.{comesTo, ifWritten}
 use Rattle.arm64.specs.declared.Op.{Op}
 use Rattle.arm64.specs.declared.Op.the-variants.{AllocStack, SaveReg, SaveRegPreindexed, SaveRegPair, SaveRegPairPreindexed, SaveLrPair, SaveNext, Other, End, Undecodable}
 use Rattle.arm64.specs.declared.Saved.{Saved}
 use Rattle.arm64.specs.declared.BreakpadEncoder.{BreakpadEncoder}
-use Rattle.arm64.specs.Arm64.{word, ops, width, above, saved, startEncoder, began, grown, single, double, remembered, stepped, savedRule, cfaRule, raRule, given, armRules, lacks, defaults, armLine, run, armText, armJudged, armEntry}
+use Rattle.arm64.specs.Arm64.{word, ops, above, saved, startEncoder, began, grown, single, double, remembered, stepped, savedRule, cfaRule, raRule, given, armRules, lacks, defaults, armLine, run, armText, armJudged, armEntry}
 
 -- what an operation lets the stack grow by
 unfoldable pub addedBy : Op → ℕ

@@ -5,7 +5,7 @@ use mathlib.Core.Path.{_≡_}
 use mathlib.Core.Bool.{Bool, true, false, cond}
 use lib.IntN.{ℤ, pos, negsuc, subℕ}
 use lib.Dec.{ltb}
-use Rattle.text.specs.Tests.{below, above}
+use Rattle.text.specs.Tests.{below}
 
 unfoldable pub inside : ℤ → Bool
 inside (pos n) = ltb n (2 ^ 31)

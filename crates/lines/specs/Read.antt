@@ -1,6 +1,5 @@
 -- A reader of lines, total and lax: of any bytes it gives lines, and of a text that `render` writes of well-formed lines it gives these.
-use Prim.Native.Nat.{ℕ}
-use mathlib.Core.Bool.{Bool, true, false, cond}
+use mathlib.Core.Bool.{cond}
 use mathlib.Core.List.{List, [], _∷_, _++_, map, headD}
 use lib.ListN.{getD, drop}
 use Rattle.text.specs.Text.{ascii}
@@ -8,7 +7,6 @@ use Rattle.text.specs.Tests.{eqw}
 use Rattle.text.specs.Digits.{readHex, readSigned}
 use Rattle.lines.specs.Lines.{Bytes, Form, register, registerPlus, atRegisterPlus, cfaPlus, atCfaPlus, atCfaMinus, Rule, rule, Line, init, later, win, cfa}
 use Rattle.lines.specs.Cut.{free, cut, after}
-use Rattle.lines.specs.declared.StackInfo.{StackInfo}
 pub mod Laws
 
 -- ---- a rule, by its words: 58 is ':'

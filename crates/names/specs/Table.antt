@@ -1,7 +1,7 @@
 -- How a table of names stands in the source: ten bytes an entry, the length as a digit, then the name in eight bytes and a space.
 use mathlib.Core.Path.{_≡_}
 use Prim.Native.Nat.{ℕ, _+_, _-_, _*_}
-use mathlib.Core.Bool.{Bool, true, false, cond}
+use mathlib.Core.Bool.{Bool, cond}
 use mathlib.Core.List.{List, [], _∷_}
 use lib.ListN.{getD, length, take}
 use lib.Dec.{leb}

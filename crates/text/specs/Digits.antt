@@ -1,6 +1,6 @@
 -- Numbers as text (document 01, Numbers): lower-case hexadecimal and decimal without leading zeros, 0 is "0"; a sign stands before a negative.
 use Prim.Native.Nat.{ℕ, zero, suc, pred, _+_, _-_, _*_, _/_, _%_}
-use mathlib.Core.Bool.{Bool, true, false, cond}
+use mathlib.Core.Bool.{true, false, cond}
 use mathlib.Core.List.{List, [], _∷_, _++_}
 use lib.Dec.{ltb, eqb}
 use lib.IntN.{ℤ, pos, negsuc}

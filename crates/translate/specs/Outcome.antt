@@ -1,7 +1,7 @@
 -- What a call comes to, for every input (document 01, "Refusal list"): the number, the entries done, the length, and both buffers to the byte.
 use mathlib.Core.Path.{_≡_}
 use mathlib.Core.List.{List, [], _∷_, _++_}
-use mathlib.Core.Bool.{Bool, true, false, cond}
+use mathlib.Core.Bool.{cond}
 use Prim.Native.Nat.{ℕ, zero, suc, _-_, _≤_}
 use lib.ListN.{length, drop, set, replicate}
 use lib.Dec.{ltb, eqb}

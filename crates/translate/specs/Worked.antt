@@ -1,7 +1,7 @@
 -- Document 01's starred specimens, as one table: each is what `outcome` computes.
 use Prim.Native.Nat.{ℕ}
-use mathlib.Core.Bool.{Bool, true, false, _&&_}
-use mathlib.Core.List.{List, [], _∷_, _++_}
+use mathlib.Core.Bool.{Bool, _&&_}
+use mathlib.Core.List.{List, [], _∷_}
 use lib.ListN.{length, take, replicate}
 use lib.Dec.{T, eqb}
 use Rattle.text.specs.Text.{ascii}

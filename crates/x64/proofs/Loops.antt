@@ -1,15 +1,14 @@
 -- What holds at each turn of the two loops that write a chain's rules: what is left to run is in reach, and its text is what is left to write.
-use mathlib.Core.Path.{_≡_, refl, sym, ap, _∙_}
-use Prim.Native.Nat.{ℕ, zero, suc, _+_, _-_, _*_, _^_, _≤_, _<_}
+use mathlib.Core.Path.{_≡_, ap, _∙_}
+use Prim.Native.Nat.{ℕ, _+_, _-_, _*_, _^_, _≤_, _<_}
 use native.Mathlib.Omega.{arith}
 use native.Mathlib.Nat.{add-assoc}
-use mathlib.Core.Bool.{Bool, true, false, _&&_}
-use mathlib.Core.List.{List, [], _∷_, _++_}
+use mathlib.Core.List.{List, _++_}
 use lib.ListN.{length}
 use lib.Dec.{T, ltb, ltb→lt}
 use Rattle.text.specs.Text.{Put, Left}
 use Rattle.text.specs.Text.Laws.{left-all, left-put, left-as, left-none}
-use Rattle.text.specs.Tests.{and-l, and-r, both}
+use Rattle.text.specs.Tests.{and-l, and-r}
 use Rattle.x64.specs.declared.Op.{Op}
 use Rattle.lines.specs.Lines.{rulesText}
 use Rattle.lines.specs.Lines.Laws.{rules-append}

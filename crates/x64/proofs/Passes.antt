@@ -1,11 +1,11 @@
 -- What holds at each turn of the two loops of the first pass: scanning what is left from here gives what scanning all gives.
-use mathlib.Core.Path.{_≡_, refl, sym, ap, _∙_}
-use Prim.Native.Nat.{ℕ, min, zero, suc, _+_, _-_, _*_, _^_, _≤_, _<_}
+use mathlib.Core.Path.{_≡_, refl, sym, _∙_}
+use Prim.Native.Nat.{ℕ, min, _+_, _-_, _*_, _^_, _≤_, _<_}
 use native.Mathlib.Omega.{arith}
-use mathlib.Core.Bool.{Bool, true, false, _&&_}
-use mathlib.Core.List.{List, [], _∷_, _++_}
+use mathlib.Core.Bool.{Bool, false}
+use mathlib.Core.List.{List}
 use lib.Dec.{T}
-use Rattle.text.specs.Tests.{and-l, and-r, both}
+use Rattle.text.specs.Tests.{and-l, and-r}
 use Rattle.x64.specs.declared.Scan.{Scan}
 use Rattle.x64.specs.X64.{word, infoCount, chain, infoFits, infosFit, x64Layout, undecodableOps, undecodableInfos}
 use Rattle.x64.specs.Index.{opAt, opsRun, infoOps, nextInfo, chainFrom, ops-step, chain-step, chain-run, infos-fit-step, count-small, undecodable-step, info-bound, layout-infos, layout-few, or-no}

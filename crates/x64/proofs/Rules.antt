@@ -1,5 +1,5 @@
 -- Rules as `put_saved` and its like write them, and the texts of the definitions.
-use mathlib.Core.Path.{_≡_, refl, sym, ap, _∙_}
+use mathlib.Core.Path.{_≡_, sym, ap, _∙_}
 use Prim.Native.Nat.{ℕ, _-_}
 use native.Mathlib.Omega.{arith}
 use mathlib.Core.Bool.{false}
@@ -8,7 +8,7 @@ use lib.IntN.{ℤ, pos, subℕ}
 use Rattle.text.specs.Text.{ascii, Put}
 use Rattle.text.specs.Text.Laws.{put-as, _⨾_}
 use Rattle.text.specs.Tests.{above}
-use Rattle.lines.specs.Lines.{Bytes, Rule, rule, cfa, registerPlus, atCfaMinus, init, ruleText, rulesText, initText, lineText}
+use Rattle.lines.specs.Lines.{Bytes, Rule, rule, atCfaMinus, init, ruleText, rulesText, initText, lineText}
 use Rattle.lines.specs.Lines.Laws.{rules-append}
 
 pub sub-none : (a : ℕ) → subℕ a 0 ≡ pos a

@@ -1,13 +1,12 @@
 -- What a first pass over a chain's operations keeps, one step for each; and what it says of the chain.
 use mathlib.Core.Path.{_≡_, refl, sym, ap, _∙_}
-use Prim.Native.Nat.{ℕ, zero, suc, _+_, _-_, _*_, _^_, _≤_, _<_}
+use Prim.Native.Nat.{ℕ, _+_, _-_, _^_, _≤_, _<_}
 use native.Mathlib.Omega.{arith}
-use native.Mathlib.Nat.{add-assoc}
 use mathlib.Core.Bool.{Bool, true, false, not, cond, _&&_, _||_}
 use mathlib.Core.List.{List, [], _∷_, _++_}
-use lib.IntN.{ℤ, pos, subℕ}
+use lib.IntN.{pos, subℕ}
 use lib.Dec.{T, ltb, ltb→lt}
-use Rattle.text.specs.Tests.{is-true, is-false, above, below, and-l, and-r, both}
+use Rattle.text.specs.Tests.{is-true, above, below, and-l, and-r}
 use Rattle.x64.specs.declared.Op.{Op}
 use Rattle.x64.specs.declared.Op.the-variants.{PushNonVolatile, Alloc, SaveRsp, SaveFp, SetFpRegister, PushMachineFrame, Other, Undecodable}
 use Rattle.x64.specs.declared.Scan.{Scan}

@@ -1,29 +1,28 @@
 -- The sense of an x64 entry (document 01, "Sense"): its line, with each operation's S by a sum over those run before it.
 -- Proved below: the text as the operations are run is this line's text, the line is well formed, and the law of the CFA.
-use mathlib.Core.Path.{_≡_, refl, sym, ap, _∙_}
+use mathlib.Core.Path.{_≡_, refl, sym, ap}
 use Prim.Native.Nat.{ℕ, zero, suc, _+_, _-_, _*_}
 use native.Mathlib.Nat.{add-assoc}
 use native.Mathlib.Numerals.{add-one}
 use native.Mathlib.Omega.{arith}
-use mathlib.Core.Bool.{Bool, true, false, cond, _&&_}
+use mathlib.Core.Bool.{Bool, true, false, cond}
 use mathlib.Core.List.{List, [], _∷_, _++_, append-nil}
 use lib.ListN.{length, getD, take, length-append}
 use lib.Seq.{take-append-seam, getD-append-seam, append-snoc}
-use lib.IntN.{pos, subℕ}
+use lib.IntN.{pos}
 use lib.Dec.{T}
 use Rattle.text.specs.Text.{ascii}
-use Rattle.text.specs.Tests.{is-true, all, all-append, and-l, and-r, both}
+use Rattle.text.specs.Tests.{is-true, all, all-append, and-l, both}
 use Rattle.names.specs.Names.{peName}
-use Rattle.lines.specs.Lines.{Form, registerPlus, atRegisterPlus, atCfaMinus, Rule, rule, Line, init, cfa, lineText, render, nameOk, registerOk, formOk, ruleOk, lineOk}
+use Rattle.lines.specs.Lines.{Form, registerPlus, Rule, rule, Line, init, cfa, lineText, render, nameOk, registerOk, formOk, ruleOk, lineOk}
 use Rattle.lines.specs.Rules.Laws.{pe-ok}
 use Rattle.entry.specs.declared.Judged.{Judged}
 use Rattle.entry.specs.declared.Judged.the-variants.{Refuse, Skip, Write}
 use Rattle.entry.specs.declared.Last.{Last}
-use Rattle.entry.specs.Entry.{Entry, comesTo, ifWritten}
+use Rattle.entry.specs.Entry.{comesTo, ifWritten}
 use Rattle.x64.specs.declared.Op.{Op}
 use Rattle.x64.specs.declared.Op.the-variants.{PushNonVolatile, Alloc, SaveRsp, SaveFp, SetFpRegister, PushMachineFrame, Other, Undecodable}
 use Rattle.x64.specs.X64.{word, chain, growthOf, run, total, machineRules, opRules, opCfa, cfaForm, isMachine, anyMachine, raRules, ranRules, x64Text, isSet, setCount, x64Judged, x64Entry}
-use Rattle.x64.specs.Index.{total-sum}
 
 -- 8 a push, an allocation's value, 40 a machine frame and 8 its error code
 unfoldable pub addedBy : Op → ℕ

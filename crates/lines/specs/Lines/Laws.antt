@@ -1,5 +1,5 @@
 -- Texts of rules and lines, one after the other.
-use mathlib.Core.Path.{_≡_, refl, sym, ap, _∙_}
+use mathlib.Core.Path.{_≡_, refl, sym}
 use mathlib.Core.Bool.{Bool}
 use mathlib.Core.List.{List, [], _∷_, _++_, append-assoc}
 use Rattle.lines.specs.Lines.{Rule, Line, ruleText, rulesText, lineText, render}

@@ -4,16 +4,16 @@
 use mathlib.Core.Path.{_≡_, refl, sym, ap, _∙_}
 use Prim.Native.Nat.{ℕ, _<_}
 use native.Mathlib.Omega.{arith}
-use mathlib.Core.Bool.{Bool, true, false, not, cond, _&&_, and-false}
+use mathlib.Core.Bool.{Bool, true, false, not, and-false}
 use mathlib.Core.List.{List, [], _∷_, _++_, map, headD, append-nil, append-assoc}
-use lib.ListN.{length, getD, drop}
+use lib.ListN.{length}
 use lib.IntN.{ℤ}
 use lib.Dec.{T, eqb}
 use Rattle.text.specs.Text.{ascii}
-use Rattle.text.specs.Tests.{all, all-append, all-mono, eqw, eqw-no, is-true, is-false, and-l, and-r, both, tests}
-use Rattle.text.specs.Digits.{digit, hex, signed, readHex, readSigned}
+use Rattle.text.specs.Tests.{all, all-append, all-mono, eqw, eqw-no, is-true, is-false, and-l, and-r, both}
+use Rattle.text.specs.Digits.{digit, hex, signed}
 use Rattle.text.specs.Digits.Laws.{hex-all, hex-some, signed-all, read-hex, read-signed}
-use Rattle.lines.specs.Lines.{Bytes, Form, register, registerPlus, atRegisterPlus, cfaPlus, atCfaPlus, atCfaMinus, Rule, rule, Line, init, later, win, cfa, amount, formText, ruleText, rulesText, initText, gap, laterText, field, flag, winText, lineText, render, solid, nameByte, nameOk, registerOk, formOk, ruleOk, lineOk, Lines·open}
+use Rattle.lines.specs.Lines.{Bytes, Form, register, registerPlus, atRegisterPlus, cfaPlus, atCfaPlus, atCfaMinus, Rule, rule, Line, init, later, win, cfa, formText, ruleText, rulesText, initText, laterText, flag, winText, lineText, render, solid, nameByte, nameOk, formOk, ruleOk, lineOk}
 use Rattle.lines.specs.Cut.{free, cut, cut-block, cut-words, cut-ended, spaced, ended, after, after-words}
 use Rattle.lines.specs.Read.{readForm, front, readRules, readLater, readCfi, readWin, readWords, readLine, read}
 use Rattle.lines.specs.declared.StackInfo.{StackInfo}

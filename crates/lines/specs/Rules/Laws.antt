@@ -1,15 +1,15 @@
 -- Every name of the tables, and so every rule of the code, is well formed: a computed test over each table.
 use Prim.Native.Nat.{ℕ, zero, suc}
-use mathlib.Core.Bool.{Bool, true, false, not, cond, _&&_}
+use mathlib.Core.Bool.{Bool, true, false, cond}
 use mathlib.Core.List.{List, [], _∷_, _++_}
 use lib.ListN.{getD}
 use lib.Dec.{T, eqb}
 use Rattle.text.specs.Text.{ascii}
-use Rattle.text.specs.Tests.{all, all-append, eqw, and-l, and-r, both}
+use Rattle.text.specs.Tests.{all, and-l, and-r, both}
 use Rattle.text.specs.Digits.{digit, decimal}
 use Rattle.text.specs.Digits.Laws.{decimal-all}
 use Rattle.names.specs.Names.{i386, x86-64, arm, arm64, ppc, mips, pe-x64, table, cfiName, peName, letterOf, arm64Name}
-use Rattle.lines.specs.Lines.{Bytes, nameByte, nameOk, registerOk, formOk, ruleOk, cfa}
+use Rattle.lines.specs.Lines.{Bytes, nameByte, nameOk, registerOk, formOk, ruleOk}
 use Rattle.lines.specs.Rules.{regName, ruleName, formOf, ruleOf}
 use Rattle.lines.specs.declared.Reg.{Reg}
 use Rattle.lines.specs.declared.Reg.the-variants.{Sp, Pe, Cfi, Arm64}

@@ -1,6 +1,6 @@
 -- What the functions of the call promise each other, and that the call keeps its contract.
-use mathlib.Core.Path.{_≡_, refl, sym, ap, _∙_}
-use mathlib.Core.List.{List, [], _∷_, _++_}
+use mathlib.Core.Path.{_≡_, refl, ap, _∙_}
+use mathlib.Core.List.{List, [], _++_}
 use mathlib.Core.Bool.{true, false}
 use Prim.Native.Nat.{ℕ, zero, suc, _+_, _-_, _≤_, _<_}
 use native.Mathlib.Omega.{arith}
@@ -16,7 +16,7 @@ use Rattle.entry.specs.declared.Wrote.{Wrote}
 use Rattle.entry.specs.Entry.{Entry, noLast, Processed}
 use Rattle.book.specs.Book.{kind, count, body, bodiesFrom, bodies, contentsOk}
 use Rattle.translate.specs.declared.Returned.{Returned}
-use Rattle.translate.specs.Outcome.{entryOf, AREA, LONGEST, MOST-LIMIT, verdict, Walked, onward, walk, walkOf, Outcome, refused, cleared, ran, outcome, Called, counted, Exported}
+use Rattle.translate.specs.Outcome.{entryOf, AREA, LONGEST, MOST-LIMIT, verdict, Walked, onward, walk, walkOf, Outcome, refused, cleared, outcome, Called, Exported}
 
 -- ---- a step, and the loop
 

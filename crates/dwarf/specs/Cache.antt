@@ -1,0 +1,78 @@
+-- The rules last seen as the code keeps them: arrays with a count, and what they say of each register.
+use mathlib.Core.Path.{_≡_}
+use mathlib.Core.Bool.{Bool, true, false, cond, _||_}
+use mathlib.Core.List.{List, [], _∷_}
+use Prim.Native.Nat.{ℕ, suc, _+_}
+use lib.ListN.{take, getD}
+use lib.Dec.{eqb, ltb}
+use Rattle.lines.specs.Lines.{Form, Rule}
+use Rattle.lines.specs.Rules.{formOf, ruleOf}
+use Rattle.dwarf.specs.declared.RegisterRule.{RegisterRule}
+use Rattle.dwarf.specs.declared.RuleCache.{RuleCache}
+use Rattle.dwarf.specs.declared.RowState.{RowState}
+use Rattle.dwarf.specs.declared.RowScan.{RowScan}
+use Rattle.dwarf.specs.declared.Met.{Met}
+use Rattle.dwarf.specs.declared.Formed.{Formed}
+use Rattle.dwarf.specs.declared.Formatted.{Formatted}
+use Rattle.dwarf.specs.Dwarf.{Seen, never, seen, CfaSeen, noCfa, lastCfa, remember, Row, seenAfter, ranRules, ranMoved}
+
+-- the first place of q in a list, or the list's length
+unfoldable pub firstIn : List ℕ → ℕ → ℕ
+firstIn [] q = 0
+firstIn (x ∷ l) q = cond (eqb x q) 0 (suc (firstIn l q))
+
+-- the place of a register in the cache, or the count
+abbrev pub placeOf : RuleCache → ℕ → ℕ
+placeOf c q = firstIn (take (c .count) (c .register)) q
+
+-- the rule last seen of a register
+unfoldable pub lookup : RuleCache → ℕ → Seen
+lookup c q = cond (ltb (placeOf c q) (c .count)) (seen (getD (c .kind) (placeOf c q) 0) (getD (c .value) (placeOf c q) 0)) never
+
+-- the CFA last seen
+abbrev pub cfaOf : RowState → CfaSeen
+cfaOf s = cond (s .«cfa_seen») (lastCfa (s .cfa)) noCfa
+
+-- a register that was never seen takes one place more
+abbrev pub newly : Seen → ℕ
+newly never = 1
+newly (seen k v) = 0
+
+-- how many places rules take
+unfoldable pub fresh : (ℕ → Seen) → List RegisterRule → ℕ
+fresh c [] = 0
+fresh c (x ∷ xs) = newly (c (x .register)) + fresh (remember c x) xs
+
+-- ---- what the code hands on of forms and rules that may not be there
+
+unfoldable pub formed : Formed → List Form
+formed f = cond (f .some) (formOf (f .form) ∷ []) []
+
+unfoldable pub formatted : Formatted → List Rule
+formatted f = cond (f .some) (ruleOf (f .rule) ∷ []) []
+
+module _ {A : Type 0} where
+  unfoldable pub any : List A → Bool
+  any [] = false
+  any (x ∷ xs) = true
+
+-- ---- what loops over a row's rules, from the rules c last seen on, come to
+
+-- `already` says that something was written before them
+pub record Scanned (family ra : ℕ) (c : RuleCache) (already : Bool) (xs : List RegisterRule) (r : RowScan) : Type 0 where
+  pub sees : lookup (r .rules) ≡ seenAfter (lookup c) xs
+  pub counts : r .rules .count ≡ c .count + fresh (lookup c) xs
+  pub writes : r .written ≡ already || any (ranRules family ra (lookup c) xs)
+  pub moves : r .«ra_written» ≡ ranMoved ra (lookup c) xs
+
+-- where there is no room for all, only that is known
+pub record Known (c : RuleCache) (xs : List RegisterRule) (r : Met) : Type 0 where
+  pub tells : r .over ≡ ltb 64 (c .count + fresh (lookup c) xs)
+  pub sees : r .over ≡ false → lookup (r .rules) ≡ seenAfter (lookup c) xs
+  pub counts : r .over ≡ false → r .rules .count ≡ c .count + fresh (lookup c) xs
+
+-- the state behind a row
+pub record After (s : RowState) (w : Row) (r : RowState) : Type 0 where
+  pub cfa-is : cfaOf r ≡ lastCfa (w .cfa)
+  pub sees : lookup (r .rules) ≡ seenAfter (lookup (s .rules)) (w .rules)
+  pub counts : r .rules .count ≡ s .rules .count + fresh (lookup (s .rules)) (w .rules)

@@ -1,0 +1,116 @@
+-- One step of each definition over the words, as the code's loops take them, and what the layout gives them.
+use mathlib.Core.Path.{_≡_, refl, sym, ap, _∙_}
+use Prim.Native.Nat.{ℕ, zero, suc, _+_, _-_, _*_, _^_, _≤_, _<_}
+use native.Mathlib.Omega.{arith}
+use mathlib.Core.Bool.{Bool, true, false, not, cond, _&&_, _||_}
+use mathlib.Core.List.{List, [], _∷_, _++_}
+use lib.Dec.{T, ltb, leb, eqb, leb→le}
+use Rattle.text.specs.Tests.{and-l, and-r, both}
+use Rattle.entry.specs.declared.Judged.{Judged}
+use Rattle.entry.specs.declared.Judged.the-variants.{Refuse, Skip, Write}
+use Rattle.dwarf.specs.declared.RegisterRule.{RegisterRule}
+use Rattle.dwarf.specs.Dwarf.{word, ruleAt, rulesFrom, cfaAt, Row, ruleCount, nextRow, rowAt, rowsFrom, rowCount, rows, wide, firstStart, lastEnd, anyBelow, registers, member, distinct, ruleFits, rulesFit, cfaFits, rowFits, rowsFit, rulesOf, headFits, dwarfLayout, dwarfSkipped, dwarfReach, dwarfJudged, Seen, never, seen, remember, seenAfter, nothingSeen}
+use Rattle.dwarf.specs.Cache.{newly, fresh}
+
+-- ---- steps
+
+pub rules-step : (ws : List ℕ) (n a : ℕ) → 0 < n → rulesFrom ws n a ≡ ruleAt ws a ∷ rulesFrom ws (n - 1) (a + 4)
+unfolding rulesFrom
+rules-step ws zero a h = absurd (omega arith)
+rules-step ws (suc n) a h = let e : suc n - 1 ≡ n = omega arith in rw e
+
+pub rows-step : (ws : List ℕ) (m a : ℕ) → 0 < m → rowsFrom ws m a ≡ rowAt ws a ∷ rowsFrom ws (m - 1) (nextRow ws a)
+unfolding rowsFrom
+rows-step ws zero a h = absurd (omega arith)
+rows-step ws (suc m) a h = let e : suc m - 1 ≡ m = omega arith in rw e
+
+pub rules-fit-step : (ws : List ℕ) (n a : ℕ) → 0 < n → rulesFit ws n a ≡ ruleFits ws a && rulesFit ws (n - 1) (a + 4)
+unfolding rulesFit
+rules-fit-step ws zero a h = absurd (omega arith)
+rules-fit-step ws (suc n) a h = let e : suc n - 1 ≡ n = omega arith in rw e
+
+pub rows-fit-step : (ws : List ℕ) (m a : ℕ) → 0 < m → rowsFit ws m a ≡ rowFits ws a && rowsFit ws (m - 1) (nextRow ws a)
+unfolding rowsFit
+rows-fit-step ws zero a h = absurd (omega arith)
+rows-fit-step ws (suc m) a h = let e : suc m - 1 ≡ m = omega arith in rw e
+
+-- ---- tests
+
+pub and-no : (a b : Bool) → a ≡ false → false ≡ (a && b)
+and-no a b h = rw h
+
+pub and-yes : (a b : Bool) → a ≡ true → b ≡ (a && b)
+and-yes a b h = rw h
+
+pub or-no : (a b : Bool) → a ≡ false → b ≡ (a || b)
+or-no a b h = rw h
+
+pub or-yes : (a b : Bool) → a ≡ true → true ≡ (a || b)
+or-yes a b h = rw h
+
+-- ---- what the layout gives
+
+pub row-few : (ws : List ℕ) (a : ℕ) → T (rowFits ws a) → ruleCount ws a ≤ 64
+unfolding rowFits
+row-few ws a h = leb→le (ruleCount ws a) 64 (and-r (cfaFits ws a) _ (and-l (cfaFits ws a && leb (ruleCount ws a) 64) _ h))
+
+-- rows have at most 265 words
+pub row-bound : (ws : List ℕ) (a m : ℕ) → T (rowFits ws a) → 0 < m → a + 265 * m ≤ 271367 → nextRow ws a + 265 * (m - 1) ≤ 271367
+row-bound ws a m h k b = omega (arith, row-few ws a h)
+
+pub head-few : (ws : List ℕ) → T (headFits ws) → rowCount ws ≤ 1024
+unfolding headFits
+head-few ws h = leb→le (rowCount ws) 1024 (and-r (ltb (word ws 5) 65536) _ (and-r (leb (word ws 0) 10) _ h))
+
+pub layout-few : (ws : List ℕ) → T (dwarfLayout ws) → rowCount ws ≤ 1024
+unfolding dwarfLayout
+layout-few ws h = head-few ws (and-l (headFits ws) _ h)
+
+pub layout-rows : (ws : List ℕ) → T (dwarfLayout ws) → T (rowsFit ws (rowCount ws) 7)
+unfolding dwarfLayout
+layout-rows ws h = and-l (rowsFit ws (rowCount ws) 7) _ (and-r (headFits ws) _ h)
+
+pub layout-distinct : (ws : List ℕ) → T (dwarfLayout ws) → distinct [] (registers (rulesOf (rows ws))) ≤ 64
+unfolding dwarfLayout
+layout-distinct ws h = leb→le (distinct [] (registers (rulesOf (rows ws)))) 64 (and-r (rowsFit ws (rowCount ws) 7) _ (and-r (headFits ws) _ h))
+
+-- ---- registers met
+
+pub fresh-append : (c : ℕ → Seen) (xs ys : List RegisterRule) → fresh c (xs ++ ys) ≡ fresh c xs + fresh (seenAfter c xs) ys
+unfolding fresh seenAfter
+fresh-append c [] ys = omega arith
+fresh-append c (x ∷ xs) ys = rw (fresh-append (remember c x) xs ys) (omega arith)
+
+fresh-met : (c : ℕ → Seen) (met : List ℕ) (xs : List RegisterRule) → ((q : ℕ) → newly (c q) ≡ cond (member q met) 0 1)
+    → fresh c xs ≡ distinct met (registers xs)
+unfolding fresh distinct registers member
+fresh-met c met [] h = refl
+fresh-met c met (x ∷ xs) h = rw (h (x .register), fresh-met (remember c x) (x .register ∷ met) xs (λ q. go q (eqb (x .register) q)))
+  where
+    go : (q : ℕ) (t : Bool) → newly (cond t (seen (x .kind) (x .value)) (c q)) ≡ cond (t || member q met) 0 1
+    go q true = refl
+    go q false = h q
+
+pub fresh-distinct : (xs : List RegisterRule) → fresh nothingSeen xs ≡ distinct [] (registers xs)
+unfolding nothingSeen member
+fresh-distinct xs = fresh-met nothingSeen [] xs (λ q. refl)
+
+-- ---- an entry that is written is laid out
+
+pub written : (ws : List ℕ) → dwarfJudged ws ≡ Write → T (dwarfLayout ws)
+unfolding dwarfJudged
+written ws e = go (dwarfLayout ws) e
+  where
+    go : (t : Bool) → cond t (cond (dwarfSkipped ws) Skip (cond (eqb (dwarfReach ws) 0) Write (Refuse (dwarfReach ws)))) (Refuse 4) ≡ Write → T t
+    go true e = tt
+    go false k = let z : _≡_ {A = ℕ} 0 1 = cc in absurd (omega arith)
+
+-- ---- the first row's start
+
+pub first-none : (ws : List ℕ) → rowCount ws ≡ 0 → 0 ≡ firstStart (rows ws)
+unfolding rows rowsFrom firstStart
+first-none ws e = rw e
+
+pub first-some : (ws : List ℕ) → 0 < rowCount ws → wide ws 7 ≡ firstStart (rows ws)
+unfolding rows firstStart
+first-some ws h = rw (rows-step ws (rowCount ws) 7 h)

@@ -1,0 +1,3 @@
+pub mod Dwarf
+pub mod Cache
+pub mod Index

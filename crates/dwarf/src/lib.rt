@@ -1,0 +1,971 @@
+// DWARF entries: the rows of a frame description entry (DWARF standard, Call Frame Information) into STACK CFI lines.
+//
+// Each row tells, from its start address on, where the CFA lies and how the caller's registers are found. Only what differs from the row that
+// last spoke of it is written, so the state that goes from row to row is the CFA last seen and, for each register, the rule last seen:
+//
+//     kind             value          the caller's register
+//     0 same           -              is the register itself
+//     1 offset         N, signed      stands at CFA + N
+//     2 value offset   N, signed      is CFA + N
+//     3 register       register       is that register
+//     4 other          -              cannot be written; it is remembered all the same
+use entry::Judged;
+use entry::Last;
+use entry::Wrote;
+use lines::Form;
+use lines::Name;
+use lines::Reg;
+use lines::Rule;
+use lines::put_init;
+use lines::put_later;
+use lines::put_rule;
+use names::cfi_register_name;
+use text::put_byte;
+ghost use mathlib.Core.Path.{_≡_};
+ghost use mathlib.Core.Bool.{cond, not, true, false, _&&_, _||_};
+ghost use mathlib.Core.List.{[], _∷_, _++_};
+ghost use Prim.Native.Nat.{ℕ, _+_, _-_, _*_, _^_, _<_, _≤_};
+ghost use lib.ListN.{getD};
+ghost use lib.Dec.{T, eqb, leb, ltb};
+ghost use Rattle.text.specs.Text.{Put, ascii};
+ghost use Rattle.names.specs.Names.{cfiName};
+ghost use Rattle.entry.specs.Entry.{Processed};
+ghost use Rattle.lines.specs.Lines.{initText, laterText, rulesText, lineText, render};
+ghost use Rattle.dwarf.specs.Dwarf.{wide, twos, usedValue, ruleAt, rulesFrom, cfaAt, rowsFrom, rows, firstStart, lastEnd, fdeOf, registers, member, once, ruleFits, rulesFit, cfaFits, rowFits, rowsFit, headFits, dwarfLayout, dwarfSkipped, anyBelow, dwarfReach, dwarfJudged, nameForm, ruleForms, ruleRules, cfaRules, raRules, defaultRules, lineOf, ranRow, differs, cfaDiffers, remembered, seenAfter, ranRules, ranMoved, dwarfText, dwarfEntry, never, noCfa, nothingSeen, ranRows, ranOf, rulesOf, rowAt, distinct};
+ghost use Rattle.dwarf.specs.Cache.{lookup, placeOf, cfaOf, newly, fresh, formed, formatted, any, Scanned, After, Known};
+
+// The rules last seen live in arrays of this many registers.
+const MOST_REGISTERS: usize = 64;
+
+// Register numbers end here.
+const REGISTERS: u32 = 65536;
+
+// A register's rule in a row; the value is 0 where the kind uses none.
+pub struct RegisterRule {
+    pub register: u32,
+    pub kind: u32,
+    pub value: u64,
+}
+
+// A row's CFA: register + offset (kind 0), or an expression (kind 1), with register and offset 0.
+pub struct CfaRule {
+    pub kind: u32,
+    pub register: u32,
+    pub offset: u64,
+}
+
+// What holds for all rows: CPU family, return register, load address, first start, and the length up to the last end.
+pub struct Fde {
+    pub family: u32,
+    pub ra: u32,
+    pub load: u64,
+    pub start: u64,
+    pub length: u64,
+}
+
+// ---- words
+
+// The word at i, and 0 past the end.
+fn word(body: &[u32], i: usize) -> u32
+    ensures { λ r. ⌜ r ≡ getD (now (body .entry)) i 0 ⌝ }
+{
+    if i < body.len() {
+        return body[i];
+    }
+    0
+}
+
+// Two words from i on, the low one first.
+fn word64(body: &[u32], i: usize) -> u64
+    requires { ⌜ i < 2 ^ 32 ⌝ }
+    ensures { λ r. ⌜ r ≡ wide (now (body .entry)) i ⌝ }
+{
+    let low = word(body, i);
+    let high = word(body, i + 1);
+    (low as u64) + (high as u64) * 4294967296
+}
+
+// 64 bits in two's complement.
+fn signed_of(w: u64) -> i64
+    ensures { λ r. ⌜ r ≡ twos w ⌝ }
+{
+    if w < 9223372036854775808 {
+        w as i64
+    } else {
+        (-1) - ((18446744073709551615 - w) as i64)
+    }
+}
+
+fn used_value(kind: u32, value: u64) -> u64
+    ensures { λ r. ⌜ r ≡ usedValue kind value ⌝ }
+{
+    if kind < 1 {
+        return 0;
+    }
+    if 3 < kind {
+        return 0;
+    }
+    value
+}
+
+// The rule whose words start at a.
+fn rule_at(body: &[u32], a: usize) -> RegisterRule
+    requires { ⌜ a < 2 ^ 21 ⌝ }
+    ensures { λ r. ⌜ r ≡ ruleAt (now (body .entry)) a ⌝ }
+{
+    let register = word(body, a);
+    let kind = word(body, a + 1);
+    let value = used_value(kind, word64(body, a + 2));
+    RegisterRule {
+        register,
+        kind,
+        value,
+    }
+}
+
+// The CFA of the row whose words start at a.
+fn cfa_at(body: &[u32], a: usize) -> CfaRule
+    requires { ⌜ a < 2 ^ 21 ⌝ }
+    ensures { λ r. ⌜ r ≡ cfaAt (now (body .entry)) a ⌝ }
+{
+    let kind = word(body, a + 4);
+    if kind == 0 {
+        let register = word(body, a + 5);
+        let offset = word64(body, a + 6);
+        return CfaRule {
+            kind,
+            register,
+            offset,
+        };
+    }
+    CfaRule {
+        kind,
+        register: 0,
+        offset: 0,
+    }
+}
+
+fn less(a: u64, b: u64) -> u64
+    ensures { λ r. ⌜ r ≡ a - b ⌝ }
+{
+    if b <= a {
+        return a - b;
+    }
+    0
+}
+
+fn either(a: bool, b: bool) -> bool
+    ensures { λ r. ⌜ r ≡ a || b ⌝ }
+{
+    if a {
+        return true;
+    }
+    b
+}
+
+fn both(a: bool, b: bool) -> bool
+    ensures { λ r. ⌜ r ≡ a && b ⌝ }
+{
+    if a {
+        return b;
+    }
+    false
+}
+
+// ---- the rules last seen
+
+// At most 64 registers, with their count: the rule last seen of each.
+pub struct RuleCache {
+    pub register: [u32; 64],
+    pub kind: [u32; 64],
+    pub value: [u64; 64],
+    pub count: usize,
+}
+
+// A rule remembered, and whether it differs from the one last seen.
+pub struct Remembered {
+    pub cache: RuleCache,
+    pub changed: bool,
+}
+
+impl RuleCache {
+    fn start() -> RuleCache
+        ensures { λ c. ⌜ (c .count ≡ 0) × (lookup c ≡ nothingSeen) ⌝ }
+    {
+        RuleCache {
+            register: [0; 64],
+            kind: [0; 64],
+            value: [0; 64],
+            count: 0,
+        }
+    }
+
+    // The place of a register among the first count, or the count.
+    fn place(self, r: u32) -> usize
+        requires { ⌜ self .count ≤ 64 ⌝ }
+        ensures { λ p. ⌜ p ≡ placeOf self r ⌝ }
+    {
+        let n = self.count;
+        let mut i = 0;
+        while i < n {
+            if self.register[i] == r {
+                return i;
+            }
+            i += 1;
+        }
+        i
+    }
+
+    // Whether there is a place for this register.
+    fn has_room(self, r: u32) -> bool
+        requires { ⌜ self .count ≤ 64 ⌝ }
+        ensures { λ b. ⌜ b ≡ leb (self .count + newly (lookup self r)) 64 ⌝ }
+    {
+        self.place(r) < MOST_REGISTERS
+    }
+
+    fn remember(mut self, r: u32, k: u32, v: u64) -> Remembered
+        requires { ⌜ self .count + newly (lookup self r) ≤ 64 ⌝ }
+        ensures counts { λ s. ⌜ s .cache .count ≡ self .count + newly (lookup self r) ⌝ }
+        ensures remembers { λ s. ⌜ lookup (s .cache) ≡ remembered (lookup self) r k v ⌝ }
+        ensures tells { λ s. ⌜ s .changed ≡ differs (lookup self r) k v ⌝ }
+    {
+        let p = self.place(r);
+        let n = self.count;
+        if p < n {
+            if self.kind[p] == k {
+                if self.value[p] == v {
+                    return Remembered {
+                        cache: self,
+                        changed: false,
+                    };
+                }
+            }
+            self.kind[p] = k;
+            self.value[p] = v;
+            return Remembered {
+                cache: self,
+                changed: true,
+            };
+        }
+        self.register[p] = r;
+        self.kind[p] = k;
+        self.value[p] = v;
+        self.count = n + 1;
+        Remembered {
+            cache: self,
+            changed: true,
+        }
+    }
+}
+
+// What goes from row to row: the CFA last seen, if any, and the rules last seen.
+pub struct RowState {
+    pub cfa_seen: bool,
+    pub cfa: CfaRule,
+    pub rules: RuleCache,
+}
+
+impl RowState {
+    fn cfa_differs(self, cfa: CfaRule) -> bool
+        ensures { λ r. ⌜ r ≡ cfaDiffers (cfaOf self) cfa ⌝ }
+    {
+        if !self.cfa_seen {
+            return true;
+        }
+        let last = self.cfa;
+        if last.kind != cfa.kind {
+            return true;
+        }
+        if last.register != cfa.register {
+            return true;
+        }
+        last.offset != cfa.offset
+    }
+}
+
+// ---- what is written of a rule
+
+// The form of a rule, if it has one.
+pub struct Formed {
+    pub some: bool,
+    pub form: Form,
+}
+
+// A rule as it is written, if it is.
+pub struct Formatted {
+    pub some: bool,
+    pub rule: Rule,
+}
+
+fn has_name(family: u32, register: u32) -> bool
+    ensures { λ r. ⌜ r ≡ any (cfiName family register) ⌝ }
+{
+    let name = cfi_register_name(family, register);
+    name.len != 0
+}
+
+fn register_form(family: u32, register: u32) -> Formed
+    ensures { λ r. ⌜ formed r ≡ nameForm (cfiName family register) ⌝ }
+{
+    let some = has_name(family, register);
+    let reg = Reg::Cfi(family, register);
+    let form = Form::Register(reg);
+    Formed { some, form }
+}
+
+fn no_form() -> Formed
+    ensures { λ r. ⌜ formed r ≡ [] ⌝ }
+{
+    let form = Form::Register(Reg::Sp);
+    Formed {
+        some: false,
+        form,
+    }
+}
+
+// The value is a register; the tables have none past 65,535.
+fn value_form(family: u32, value: u64) -> Formed
+    ensures { λ r. ⌜ formed r ≡ nameForm (cfiName family value) ⌝ }
+{
+    if value < 65536 {
+        return register_form(family, value as u32);
+    }
+    no_form()
+}
+
+fn rule_form(family: u32, rule: RegisterRule) -> Formed
+    ensures { λ r. ⌜ formed r ≡ ruleForms family rule ⌝ }
+{
+    if rule.kind == 0 {
+        return register_form(family, rule.register);
+    }
+    if rule.kind == 1 {
+        let form = Form::AtCfaPlus(signed_of(rule.value));
+        return Formed { some: true, form };
+    }
+    if rule.kind == 2 {
+        let form = Form::CfaPlus(signed_of(rule.value));
+        return Formed { some: true, form };
+    }
+    if rule.kind == 3 {
+        return value_form(family, rule.value);
+    }
+    no_form()
+}
+
+// The return register is called .ra, any other by its table name.
+fn format_rule(family: u32, ra: u32, rule: RegisterRule) -> Formatted
+    ensures { λ r. ⌜ formatted r ≡ ruleRules family ra rule ⌝ }
+{
+    let f = rule_form(family, rule);
+    let form = f.form;
+    if rule.register == ra {
+        let name = Name::Ra;
+        let rule = Rule { name, form };
+        return Formatted {
+            some: f.some,
+            rule,
+        };
+    }
+    let name = Name::Of(Reg::Cfi(family, rule.register));
+    let some = both(f.some, has_name(family, rule.register));
+    let rule = Rule { name, form };
+    Formatted { some, rule }
+}
+
+// " .cfa: R N +"; an expression writes nothing.
+fn format_cfa(family: u32, cfa: CfaRule) -> Formatted
+    ensures { λ r. ⌜ formatted r ≡ cfaRules family cfa ⌝ }
+{
+    let named = has_name(family, cfa.register);
+    let some = both(cfa.kind == 0, named);
+    let reg = Reg::Cfi(family, cfa.register);
+    let form = Form::RegisterPlus(reg, signed_of(cfa.offset));
+    let name = Name::Cfa;
+    let rule = Rule { name, form };
+    Formatted { some, rule }
+}
+
+// Where the return address is in a register, families 3 to 9: " .ra: Q".
+fn format_default(family: u32, ra: u32) -> Formatted
+    ensures { λ r. ⌜ formatted r ≡ raRules family ra ⌝ }
+{
+    let kept = both(3 <= family, family <= 9);
+    let some = both(kept, has_name(family, ra));
+    let form = Form::Register(Reg::Cfi(family, ra));
+    let name = Name::Ra;
+    let rule = Rule { name, form };
+    Formatted { some, rule }
+}
+
+fn put_formatted(out: &mut [u8], at: usize, f: Formatted) -> usize
+    ensures { λ r. ⌜ Put (now (out .entry)) at (rulesText (formatted f)) (now (out .exit)) r ⌝ }
+{
+    if f.some {
+        let rule = f.rule;
+        return put_rule(out, at, rule);
+    }
+    at
+}
+
+// The CFA's rule, where it differs from the one last seen.
+fn write_cfa_rule(out: &mut [u8], at: usize, family: u32, cfa: CfaRule, changed: bool) -> usize
+    ensures { λ r. ⌜ Put (now (out .entry)) at (rulesText (cond changed (cfaRules family cfa) [])) (now (out .exit)) r ⌝ }
+{
+    if changed {
+        return put_formatted(out, at, format_cfa(family, cfa));
+    }
+    at
+}
+
+// A register's rule, where it differs from the one last seen.
+fn write_register_rule(
+    out: &mut [u8],
+    at: usize,
+    family: u32,
+    ra: u32,
+    rule: RegisterRule,
+    changed: bool,
+) -> usize
+    ensures { λ r. ⌜ Put (now (out .entry)) at (rulesText (cond changed (ruleRules family ra rule) [])) (now (out .exit)) r ⌝ }
+{
+    if changed {
+        return put_formatted(out, at, format_rule(family, ra, rule));
+    }
+    at
+}
+
+// ---- a row
+
+// Whether the CFA writes anything.
+fn cfa_written(family: u32, cfa: CfaRule, changed: bool) -> bool
+    ensures { λ r. ⌜ r ≡ any (cond changed (cfaRules family cfa) []) ⌝ }
+{
+    if changed {
+        let f = format_cfa(family, cfa);
+        return f.some;
+    }
+    false
+}
+
+fn rule_written(family: u32, ra: u32, rule: RegisterRule, changed: bool) -> bool
+    ensures { λ r. ⌜ r ≡ any (cond changed (ruleRules family ra rule) []) ⌝ }
+{
+    if changed {
+        let f = format_rule(family, ra, rule);
+        return f.some;
+    }
+    false
+}
+
+// A row's rules read once: what is seen after them, whether anything is written, and whether the return register's rule changed.
+pub struct RowScan {
+    pub rules: RuleCache,
+    pub written: bool,
+    pub ra_written: bool,
+}
+
+fn scan_rules(
+    body: &[u32],
+    from: usize,
+    n: usize,
+    family: u32,
+    ra: u32,
+    rules: RuleCache,
+    already: bool,
+) -> RowScan
+    requires { ⌜ (from < 2 ^ 20) × (n ≤ 64) × (rules .count + fresh (lookup rules) (rulesFrom (now body) n from) ≤ 64) ⌝ }
+    ensures { λ r. ⌜ Scanned family ra rules already (rulesFrom (now (body .entry)) n from) r ⌝ }
+{
+    let mut seen = rules;
+    let mut written = already;
+    let mut moved = false;
+    let mut a = from;
+    let mut k = n;
+    while 0 < k {
+        let rule = rule_at(body, a);
+        let got = seen.remember(rule.register, rule.kind, rule.value);
+        let changed = got.changed;
+        written = either(written, rule_written(family, ra, rule, changed));
+        moved = either(moved, both(rule.register == ra, changed));
+        seen = got.cache;
+        a += 4;
+        k -= 1;
+    }
+    RowScan {
+        rules: seen,
+        written,
+        ra_written: moved,
+    }
+}
+
+// The rules of a row that differ from those last seen.
+fn put_rules(
+    out: &mut [u8],
+    at: usize,
+    body: &[u32],
+    from: usize,
+    n: usize,
+    family: u32,
+    ra: u32,
+    rules: RuleCache,
+) -> usize
+    requires { ⌜ (from < 2 ^ 20) × (n ≤ 64) × (rules .count + fresh (lookup rules) (rulesFrom (now body) n from) ≤ 64) ⌝ }
+    ensures { λ r. ⌜ Put (now (out .entry)) at (rulesText (ranRules family ra (lookup rules) (rulesFrom (now (body .entry)) n from))) (now (out .exit)) r ⌝ }
+{
+    let mut seen = rules;
+    let mut p = at;
+    let mut a = from;
+    let mut k = n;
+    while 0 < k {
+        let rule = rule_at(body, a);
+        let got = seen.remember(rule.register, rule.kind, rule.value);
+        p = write_register_rule(out, p, family, ra, rule, got.changed);
+        seen = got.cache;
+        a += 4;
+        k -= 1;
+    }
+    p
+}
+
+// The beginning of a row's line: INIT at the first start.
+fn put_start(out: &mut [u8], at: usize, fde: Fde, start: u64) -> usize
+    ensures { λ r. ⌜ Put (now (out .entry)) at (cond (eqb start (fde .start)) (initText (start - fde .load) (fde .length)) (laterText false (start - fde .load))) (now (out .exit)) r ⌝ }
+{
+    let address = less(start, fde.load);
+    if start == fde.start {
+        return put_init(out, at, address, fde.length);
+    }
+    put_later(out, at, false, address)
+}
+
+fn put_default(out: &mut [u8], at: usize, fde: Fde, start: u64, moved: bool) -> usize
+    ensures { λ r. ⌜ Put (now (out .entry)) at (rulesText (defaultRules fde start moved)) (now (out .exit)) r ⌝ }
+{
+    if both(start == fde.start, !moved) {
+        return put_formatted(out, at, format_default(fde.family, fde.ra));
+    }
+    at
+}
+
+// The line of the row at a, whose rules are compared with `state`; `scan` says what comes of it.
+fn put_line(
+    out: &mut [u8],
+    at: usize,
+    body: &[u32],
+    a: usize,
+    fde: Fde,
+    state: RowState,
+    written: bool,
+    moved: bool,
+) -> usize
+    requires { ⌜ (a < 2 ^ 19) × (getD (now body) (a + 8) 0 ≤ 64) × (state .rules .count + fresh (lookup (state .rules)) (rowAt (now body) a .rules) ≤ 64) ⌝ }
+    ensures { λ r. ⌜ Put (now (out .entry)) at (cond written (lineText false (lineOf fde (wide (now (body .entry)) a) (ranOf fde (cfaOf state) (lookup (state .rules)) (rowAt (now (body .entry)) a) ++ defaultRules fde (wide (now (body .entry)) a) moved))) []) (now (out .exit)) r ⌝ }
+{
+    if !written {
+        return at;
+    }
+    let start = word64(body, a);
+    let cfa = cfa_at(body, a);
+    let n = word(body, a + 8) as usize;
+    let changed = state.cfa_differs(cfa);
+    let p = put_start(out, at, fde, start);
+    let p = write_cfa_rule(out, p, fde.family, cfa, changed);
+    let p = put_rules(out, p, body, a + 9, n, fde.family, fde.ra, state.rules);
+    let p = put_default(out, p, fde, start, moved);
+    put_byte(out, p, b'\n')
+}
+
+// Where the text goes on, and what is last seen there.
+pub struct Placed {
+    pub at: usize,
+    pub state: RowState,
+}
+
+// One row: its line, unless nothing is written, and what is last seen after it.
+fn put_row(out: &mut [u8], at: usize, body: &[u32], a: usize, fde: Fde, state: RowState) -> Placed
+    requires { ⌜ (a < 2 ^ 19) × (getD (now body) (a + 8) 0 ≤ 64) × (state .rules .count + fresh (lookup (state .rules)) (rowAt (now body) a .rules) ≤ 64) ⌝ }
+    ensures writes { λ r. ⌜ Put (now (out .entry)) at (render false (ranRow fde (cfaOf state) (lookup (state .rules)) (rowAt (now (body .entry)) a))) (now (out .exit)) (r .at) ⌝ }
+    ensures goes { λ r. ⌜ After state (rowAt (now (body .entry)) a) (r .state) ⌝ }
+{
+    let n = word(body, a + 8) as usize;
+    let cfa = cfa_at(body, a);
+    let already = cfa_written(fde.family, cfa, state.cfa_differs(cfa));
+    let scan = scan_rules(body, a + 9, n, fde.family, fde.ra, state.rules, already);
+    let p = put_line(out, at, body, a, fde, state, scan.written, scan.ra_written);
+    let rules = scan.rules;
+    let state = RowState {
+        cfa_seen: true,
+        cfa,
+        rules,
+    };
+    Placed { at: p, state }
+}
+
+// ---- all rows
+
+fn start_state() -> RowState
+    ensures { λ r. ⌜ (cfaOf r ≡ noCfa) × (r .rules .count ≡ 0) × (lookup (r .rules) ≡ nothingSeen) ⌝ }
+{
+    let rules = RuleCache::start();
+    let cfa = CfaRule {
+        kind: 0,
+        register: 0,
+        offset: 0,
+    };
+    RowState {
+        cfa_seen: false,
+        cfa,
+        rules,
+    }
+}
+
+fn put_rows(out: &mut [u8], at: usize, body: &[u32], fde: Fde) -> usize
+    requires { ⌜ T (dwarfLayout (now body)) ⌝ }
+    ensures { λ r. ⌜ Put (now (out .entry)) at (render false (ranRows fde noCfa nothingSeen (rows (now (body .entry))))) (now (out .exit)) r ⌝ }
+{
+    let mut p = at;
+    let mut state = start_state();
+    let mut a: usize = 7;
+    let mut m = word(body, 6) as usize;
+    while 0 < m {
+        let placed = put_row(out, p, body, a, fde, state);
+        p = placed.at;
+        state = placed.state;
+        a = a + 9 + 4 * word(body, a + 8) as usize;
+        m -= 1;
+    }
+    p
+}
+
+// The last row's end.
+fn last_end(body: &[u32]) -> u64
+    requires { ⌜ T (dwarfLayout (now body)) ⌝ }
+    ensures { λ r. ⌜ r ≡ lastEnd 0 (rows (now (body .entry))) ⌝ }
+{
+    let mut end: u64 = 0;
+    let mut a: usize = 7;
+    let mut m = word(body, 6) as usize;
+    while 0 < m {
+        end = word64(body, a + 2);
+        a = a + 9 + 4 * word(body, a + 8) as usize;
+        m -= 1;
+    }
+    end
+}
+
+// A row that is not at the first start and starts below load.
+fn any_below(body: &[u32], first: u64, load: u64) -> bool
+    requires { ⌜ T (dwarfLayout (now body)) ⌝ }
+    ensures { λ r. ⌜ r ≡ anyBelow first load (rows (now (body .entry))) ⌝ }
+{
+    let mut a: usize = 7;
+    let mut m = word(body, 6) as usize;
+    while 0 < m {
+        let start = word64(body, a);
+        if both(start != first, start < load) {
+            return true;
+        }
+        a = a + 9 + 4 * word(body, a + 8) as usize;
+        m -= 1;
+    }
+    false
+}
+
+fn first_start(body: &[u32]) -> u64
+    ensures { λ r. ⌜ r ≡ firstStart (rows (now (body .entry))) ⌝ }
+{
+    if word(body, 6) == 0 {
+        return 0;
+    }
+    word64(body, 7)
+}
+
+fn fde_of(body: &[u32]) -> Fde
+    requires { ⌜ T (dwarfLayout (now body)) ⌝ }
+    ensures { λ r. ⌜ r ≡ fdeOf (now (body .entry)) ⌝ }
+{
+    let family = word(body, 0);
+    let ra = word(body, 5);
+    let load = word64(body, 3);
+    let start = first_start(body);
+    let length = less(last_end(body), start);
+    Fde {
+        family,
+        ra,
+        load,
+        start,
+        length,
+    }
+}
+
+// ---- refusal 4
+
+fn kind_fits(kind: u32, value: u64) -> bool
+    ensures { λ r. ⌜ r ≡ cond (eqb kind 3) (ltb value 65536) (leb kind 4) ⌝ }
+{
+    if kind == 3 {
+        return value < 65536;
+    }
+    kind <= 4
+}
+
+fn rule_fits(body: &[u32], a: usize) -> bool
+    requires { ⌜ a < 2 ^ 21 ⌝ }
+    ensures { λ r. ⌜ r ≡ ruleFits (now (body .entry)) a ⌝ }
+{
+    if REGISTERS <= word(body, a) {
+        return false;
+    }
+    let kind = word(body, a + 1);
+    kind_fits(kind, word64(body, a + 2))
+}
+
+fn rules_fit(body: &[u32], from: usize, n: usize) -> bool
+    requires { ⌜ (from < 2 ^ 20) × (n ≤ 64) ⌝ }
+    ensures { λ r. ⌜ r ≡ rulesFit (now (body .entry)) n from ⌝ }
+{
+    let mut a = from;
+    let mut k = n;
+    while 0 < k {
+        if !rule_fits(body, a) {
+            return false;
+        }
+        a += 4;
+        k -= 1;
+    }
+    true
+}
+
+// Whether n rules from here on name a register.
+fn names_register(body: &[u32], from: usize, n: usize, register: u32) -> bool
+    requires { ⌜ (from < 2 ^ 21) × (n ≤ 64) ⌝ }
+    ensures { λ r. ⌜ r ≡ member register (registers (rulesFrom (now (body .entry)) n from)) ⌝ }
+{
+    let mut a = from;
+    let mut k = n;
+    while 0 < k {
+        if word(body, a) == register {
+            return true;
+        }
+        a += 4;
+        k -= 1;
+    }
+    false
+}
+
+// No register twice.
+fn named_once(body: &[u32], from: usize, n: usize) -> bool
+    requires { ⌜ (from < 2 ^ 20) × (n ≤ 64) ⌝ }
+    ensures { λ r. ⌜ r ≡ once (registers (rulesFrom (now (body .entry)) n from)) ⌝ }
+{
+    let mut a = from;
+    let mut k = n;
+    while 0 < k {
+        let register = word(body, a);
+        a += 4;
+        k -= 1;
+        if names_register(body, a, k, register) {
+            return false;
+        }
+    }
+    true
+}
+
+fn cfa_fits(kind: u32, register: u32) -> bool
+    ensures { λ r. ⌜ r ≡ cond (eqb kind 0) (ltb register 65536) (eqb kind 1) ⌝ }
+{
+    if kind == 0 {
+        return register < REGISTERS;
+    }
+    kind == 1
+}
+
+fn row_fits(body: &[u32], a: usize) -> bool
+    requires { ⌜ a < 2 ^ 19 ⌝ }
+    ensures { λ r. ⌜ r ≡ rowFits (now (body .entry)) a ⌝ }
+{
+    if !cfa_fits(word(body, a + 4), word(body, a + 5)) {
+        return false;
+    }
+    let n = word(body, a + 8);
+    if 64 < n {
+        return false;
+    }
+    if !rules_fit(body, a + 9, n as usize) {
+        return false;
+    }
+    named_once(body, a + 9, n as usize)
+}
+
+fn rows_fit(body: &[u32]) -> bool
+    requires { ⌜ getD (now body) 6 0 ≤ 1024 ⌝ }
+    ensures { λ r. ⌜ r ≡ rowsFit (now (body .entry)) (getD (now (body .entry)) 6 0) 7 ⌝ }
+{
+    let mut a: usize = 7;
+    let mut m = word(body, 6) as usize;
+    while 0 < m {
+        if !row_fits(body, a) {
+            return false;
+        }
+        a = a + 9 + 4 * word(body, a + 8) as usize;
+        m -= 1;
+    }
+    a == body.len()
+}
+
+// Registers met: their rules last seen, and whether there were more than 64.
+pub struct Met {
+    pub rules: RuleCache,
+    pub over: bool,
+}
+
+fn meet_rules(body: &[u32], from: usize, n: usize, rules: RuleCache) -> Met
+    requires { ⌜ (from < 2 ^ 20) × (n ≤ 64) × (rules .count ≤ 64) ⌝ }
+    ensures { λ r. ⌜ Known rules (rulesFrom (now (body .entry)) n from) r ⌝ }
+{
+    let mut seen = rules;
+    let mut a = from;
+    let mut k = n;
+    while 0 < k {
+        let rule = rule_at(body, a);
+        if !seen.has_room(rule.register) {
+            return Met {
+                rules: seen,
+                over: true,
+            };
+        }
+        let got = seen.remember(rule.register, rule.kind, rule.value);
+        seen = got.cache;
+        a += 4;
+        k -= 1;
+    }
+    Met {
+        rules: seen,
+        over: false,
+    }
+}
+
+// At most 64 registers in all.
+fn registers_fit(body: &[u32]) -> bool
+    requires { ⌜ (getD (now body) 6 0 ≤ 1024) × T (rowsFit (now body) (getD (now body) 6 0) 7) ⌝ }
+    ensures { λ r. ⌜ r ≡ leb (distinct [] (registers (rulesOf (rows (now (body .entry)))))) 64 ⌝ }
+{
+    let mut rules = RuleCache::start();
+    let mut a: usize = 7;
+    let mut m = word(body, 6) as usize;
+    while 0 < m {
+        let n = word(body, a + 8) as usize;
+        let met = meet_rules(body, a + 9, n, rules);
+        if met.over {
+            return false;
+        }
+        rules = met.rules;
+        a = a + 9 + 4 * n;
+        m -= 1;
+    }
+    true
+}
+
+fn head_fits(body: &[u32]) -> bool
+    ensures { λ r. ⌜ r ≡ headFits (now (body .entry)) ⌝ }
+{
+    if 10 < word(body, 0) {
+        return false;
+    }
+    if REGISTERS <= word(body, 5) {
+        return false;
+    }
+    word(body, 6) <= 1024
+}
+
+// Refusal 4 does not apply: ranges, and exactly the words that the counts demand.
+fn layout(body: &[u32]) -> bool
+    ensures { λ r. ⌜ r ≡ dwarfLayout (now (body .entry)) ⌝ }
+{
+    if !head_fits(body) {
+        return false;
+    }
+    if !rows_fit(body) {
+        return false;
+    }
+    registers_fit(body)
+}
+
+// ---- one entry
+
+fn skipped(body: &[u32]) -> bool
+    ensures { λ r. ⌜ r ≡ dwarfSkipped (now (body .entry)) ⌝ }
+{
+    if word64(body, 1) == 0xffff_ffff_ffff_ffff {
+        return true;
+    }
+    if word(body, 6) == 0 {
+        return true;
+    }
+    first_start(body) < word64(body, 3)
+}
+
+// Refusal 6; 0: none.
+fn reach(body: &[u32]) -> u32
+    requires { ⌜ T (dwarfLayout (now body)) ⌝ }
+    ensures { λ r. ⌜ r ≡ dwarfReach (now (body .entry)) ⌝ }
+{
+    let first = first_start(body);
+    if last_end(body) < first {
+        return 6;
+    }
+    if any_below(body, first, word64(body, 3)) {
+        return 6;
+    }
+    0
+}
+
+// What becomes of an entry: refused by 4 or 6, skipped, or written.
+fn judge(body: &[u32]) -> Judged
+    ensures { λ r. ⌜ r ≡ dwarfJudged (now (body .entry)) ⌝ }
+{
+    if !layout(body) {
+        return Judged::Refuse(4);
+    }
+    if skipped(body) {
+        return Judged::Skip;
+    }
+    let number = reach(body);
+    if number != 0 {
+        return Judged::Refuse(number);
+    }
+    Judged::Write
+}
+
+fn put_entry(out: &mut [u8], at: usize, body: &[u32]) -> usize
+    requires { ⌜ T (dwarfLayout (now body)) ⌝ }
+    ensures { λ r. ⌜ Put (now (out .entry)) at (dwarfText (now (body .entry))) (now (out .exit)) r ⌝ }
+{
+    let fde = fde_of(body);
+    put_rows(out, at, body, fde)
+}
+
+// One entry: judged, and put at `at` where it is written. It leaves to the next what was left to it.
+pub fn process_fde(out: &mut [u8], at: usize, body: &[u32], last: Last) -> Wrote
+    ensures { λ r. ⌜ Processed (dwarfEntry last (now (body .entry))) (now (out .entry)) at (now (out .exit)) r ⌝ }
+{
+    let judged = judge(body);
+    match judged {
+        Judged::Refuse(number) => Wrote { number, at, last },
+        Judged::Skip => Wrote {
+            number: 0,
+            at,
+            last,
+        },
+        Judged::Write => {
+            let p = put_entry(out, at, body);
+            Wrote {
+                number: 0,
+                at: p,
+                last,
+            }
+        }
+    }
+}
