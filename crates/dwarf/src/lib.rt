@@ -318,10 +318,7 @@ fn no_form() -> Formed
     ensures { λ r. ⌜ formed r ≡ [] ⌝ }
 {
     let form = Form::Register(Reg::Sp);
-    Formed {
-        some: false,
-        form,
-    }
+    Formed { some: false, form }
 }
 
 // The value is a register; the tables have none past 65,535.
@@ -363,10 +360,7 @@ fn format_rule(family: u32, ra: u32, rule: RegisterRule) -> Formatted
     if rule.register == ra {
         let name = Name::Ra;
         let rule = Rule { name, form };
-        return Formatted {
-            some: f.some,
-            rule,
-        };
+        return Formatted { some: f.some, rule };
     }
     let name = Name::Of(Reg::Cfi(family, rule.register));
     let some = both(f.some, has_name(family, rule.register));

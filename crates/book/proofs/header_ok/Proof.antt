@@ -1,7 +1,8 @@
 -- `header_ok`: one test for each part of `headerOk`; the first that fails decides.
+use mathlib.Core.Path.{sym, _∙_}
 use lib.ListN.{length}
-use borrow.Author.Tests.{le-leb, lt-leb}
-use Rattle.book.specs.Book.{KINDS, kind, count, headerOk}
+use borrow.Author.Tests.{le-leb, lt-leb, eq-eqb, ne-eqb}
+use Rattle.book.specs.Book.{KINDS, TO-COME, kind, count, headerOk}
 use native.Mathlib.Omega.{arith}
 use borrow.Author.Needs.{needs}
 use Rattle.book.proofs.header_ok.Statement.{statement}
@@ -46,14 +47,11 @@ returns-4 c =
       lt-leb (kind b) KINDS (omega (arith, kind-of .ensures)),
     )
 
-count-of-requires : tie.Need-count-of-requires
-count-of-requires c κs = search needs
-
 returns-5 : tie.Need-returns-5
 unfolding headerOk
 returns-5 c =
-    let kind-of = c .before .before .before .before .kind-of in
-    let args = c .before .before .before .before .before .before .before .before .args in
+    let kind-of = c .before .before .before .kind-of in
+    let args = c .before .before .before .before .before .before .before .args in
     let b = args .book .now in
     simp (
       le-leb 2 (length b) (omega arith),
@@ -61,6 +59,25 @@ returns-5 c =
       le-leb 1 (kind b)
           (omega (arith, kind-of .ensures)),
       le-leb (kind b) KINDS (omega (arith, kind-of .ensures)),
+      eq-eqb (kind b) TO-COME (sym (kind-of .ensures) ∙ c .if5 .taken),
+    )
+
+count-of-requires : tie.Need-count-of-requires
+count-of-requires c κs = search needs
+
+returns-6 : tie.Need-returns-6
+unfolding headerOk
+returns-6 c =
+    let kind-of = c .before .before .before .before .before .kind-of in
+    let args = c .before .before .before .before .before .before .before .before .before .args in
+    let b = args .book .now in
+    simp (
+      le-leb 2 (length b) (omega arith),
+      le-leb (length b) 16384 (omega arith),
+      le-leb 1 (kind b)
+          (omega (arith, kind-of .ensures)),
+      le-leb (kind b) KINDS (omega (arith, kind-of .ensures)),
+      ne-eqb (kind b) TO-COME (λ e. c .before .before .if5 .left (kind-of .ensures ∙ e)),
       lt-leb (count b) 1024
           (omega (arith, c .before .count-of .ensures)),
     )
@@ -71,11 +88,11 @@ mul-result c = search needs
 add-result : tie.Need-add-result
 add-result c = search needs
 
-returns-6 : tie.Need-returns-6
+returns-7 : tie.Need-returns-7
 unfolding headerOk
-returns-6 c =
-    let kind-of = c .before .before .before .before .kind-of in
-    let args = c .before .before .before .before .before .before .before .before .args in
+returns-7 c =
+    let kind-of = c .before .before .before .before .before .kind-of in
+    let args = c .before .before .before .before .before .before .before .before .before .args in
     let b = args .book .now in
     simp (
       c .before .count-of .ensures,
@@ -84,6 +101,7 @@ returns-6 c =
       le-leb 1 (kind b)
           (omega (arith, kind-of .ensures)),
       le-leb (kind b) KINDS (omega (arith, kind-of .ensures)),
+      ne-eqb (kind b) TO-COME (λ e. c .before .before .if5 .left (kind-of .ensures ∙ e)),
       le-leb (count b) 1024
           (omega (arith, c .before .count-of .ensures)),
     )
@@ -97,8 +115,9 @@ header-ok-spec =
     kind-of-requires
     returns-3
     returns-4
-    count-of-requires
     returns-5
+    count-of-requires
+    returns-6
     mul-result
     add-result
-    returns-6)
+    returns-7)

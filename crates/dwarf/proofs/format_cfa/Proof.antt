@@ -37,7 +37,7 @@ signed-of-requires c κs = search needs
 -- src/lib.rt:378:1
 returns : tie.Need-returns
 unfolding cfaRules formatted ruleOf ruleName regName formOf
-returns c = 
+returns c =
     let f : SFits w64 (c .signed-of .result) = search needs in
     rw (c .before .both .ensures) (ap (λ (z : ℤ). cond (eqb (c .before .before .before .before .args .cfa .kind) 0 && c .before .before .before .has-name .result) (rule cfa (registerPlus (cfiName (c .before .before .before .before .args .family) (c .before .before .before .before .args .cfa .register)) z) ∷ []) []) (toZ-ofZ f ∙ c .signed-of .ensures) ∙ cfa-named (eqb (c .before .before .before .before .args .cfa .kind) 0) (c .before .before .before .has-name .result) (cfiName (c .before .before .before .before .args .family) (c .before .before .before .before .args .cfa .register)) (twos (c .before .before .before .before .args .cfa .offset)) (c .before .before .before .has-name .ensures))
 

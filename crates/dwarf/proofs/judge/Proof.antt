@@ -33,7 +33,7 @@ returns-2 c = rw (sym (c .before .before .before .layout .ensures) ∙ not-false
 
 -- src/lib.rt:935:9
 reach-requires : tie.Need-reach-requires
-reach-requires c κs = 
+reach-requires c κs =
     let l : dwarfLayout (c .before .before .before .before .before .args .body .now) ≡ true = sym (c .before .before .before .layout .ensures) ∙ not-false (c .before .before .before .layout .result) (c .before .before .if1 .left) in
     rw l tt
 

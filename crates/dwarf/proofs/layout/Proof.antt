@@ -24,7 +24,7 @@ returns c = rw (sym (c .before .head-fits .ensures) ∙ not-true (c .before .hea
 
 -- src/lib.rt:890:9
 rows-fit-requires : tie.Need-rows-fit-requires
-rows-fit-requires c κs = 
+rows-fit-requires c κs =
     let t : headFits (c .before .before .before .args .body .now) ≡ true = sym (c .before .head-fits .ensures) ∙ not-false (c .before .head-fits .result) (c .if1 .left) in
     head-few (c .before .before .before .args .body .now) (rw t tt)
 
@@ -35,7 +35,7 @@ returns-2 c = rw (sym (c .before .before .before .head-fits .ensures) ∙ not-fa
 
 -- src/lib.rt:893:5
 registers-fit-requires : tie.Need-registers-fit-requires
-registers-fit-requires c κs = 
+registers-fit-requires c κs =
     let t : headFits (c .before .before .before .before .before .args .body .now) ≡ true = sym (c .before .before .before .head-fits .ensures) ∙ not-false (c .before .before .before .head-fits .result) (c .before .before .if1 .left) in
     let u : rowsFit (c .before .before .before .before .before .args .body .now) (rowCount (c .before .before .before .before .before .args .body .now)) 7 ≡ true = sym (c .before .rows-fit .ensures) ∙ not-false (c .before .rows-fit .result) (c .if2 .left) in
     (head-few (c .before .before .before .before .before .args .body .now) (rw t tt), rw u tt)

@@ -51,7 +51,7 @@ loop-less c = search needs
 
 -- src/lib.rt:521:5
 loop-again : tie.Need-loop-again Inv-loop μ-loop
-loop-again c = 
+loop-again c =
     put-turn {c₁ = c .before .before .before .before .before .remember .result .cache} (c .before .before .before .before .before .before .before .before .loop .inv) (search needs) (c .before .before .before .before .before .before .rule-at .ensures) (c .before .before .before .before .before .before .before .before .before .before .before .pre .2) (c .before .before .before .before .before .remember .ensures .0) (c .before .before .before .before .before .remember .ensures .1 .0)
     (put-as (c .before .before .before .write-register-rule .ensures) (ap (λ (t : Bool). rulesText (cond t (ruleRules (c .before .before .before .before .before .before .before .before .before .before .before .args .family) (c .before .before .before .before .before .before .before .before .before .before .before .args .ra) (c .before .before .before .before .before .before .rule-at .result)) [])) (c .before .before .before .before .before .remember .ensures .1 .1)))
 

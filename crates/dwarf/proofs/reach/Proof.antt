@@ -37,14 +37,14 @@ any-below-requires c κs = search needs
 -- src/lib.rt:920:9
 returns-2 : tie.Need-returns-2
 unfolding dwarfReach
-returns-2 c = 
+returns-2 c =
     let b : anyBelow (firstStart (rows (c .before .before .before .before .before .before .before .args .body .now))) (loadAddress (c .before .before .before .before .before .before .before .args .body .now)) (rows (c .before .before .before .before .before .before .before .args .body .now)) ≡ true = rw (c .before .before .before .before .before .first-start .ensures, c .before .before .word64 .ensures) at (sym (c .before .any-below .ensures) ∙ c .if2 .taken) in
     rw (le-ltb (lastEnd 0 (rows (c .before .before .before .before .before .before .before .args .body .now))) (firstStart (rows (c .before .before .before .before .before .before .before .args .body .now))) (omega (arith, c .before .before .before .before .last-end .ensures, c .before .before .before .before .before .first-start .ensures)), b)
 
 -- src/lib.rt:911:1
 returns-3 : tie.Need-returns-3
 unfolding dwarfReach
-returns-3 c = 
+returns-3 c =
     let b : anyBelow (firstStart (rows (c .before .before .before .before .before .before .before .args .body .now))) (loadAddress (c .before .before .before .before .before .before .before .args .body .now)) (rows (c .before .before .before .before .before .before .before .args .body .now)) ≡ false = rw (c .before .before .before .before .before .first-start .ensures, c .before .before .word64 .ensures) at (sym (c .before .any-below .ensures) ∙ c .if2 .left) in
     rw (le-ltb (lastEnd 0 (rows (c .before .before .before .before .before .before .before .args .body .now))) (firstStart (rows (c .before .before .before .before .before .before .before .args .body .now))) (omega (arith, c .before .before .before .before .last-end .ensures, c .before .before .before .before .before .first-start .ensures)), b)
 

@@ -57,13 +57,13 @@ cast-a c = search needs
 
 -- src/lib.rt:812:21
 mul-a : tie.Need-mul-a Inv-loop μ-loop
-mul-a c = 
+mul-a c =
     let t : rowFits (c .before .before .before .before .before .before .before .args .body .now) (c .before .before .before .before .loop .a) ≡ true = sym (c .before .before .row-fits .ensures) ∙ not-false (c .before .before .row-fits .result) (c .before .if1 .left) in
     record { fits = omega (arith, row-few (c .before .before .before .before .before .before .before .args .body .now) (c .before .before .before .before .loop .a) (rw t tt), c .word2 .ensures) }
 
 -- src/lib.rt:812:13
 add-a-2 : tie.Need-add-a-2 Inv-loop μ-loop
-add-a-2 c = 
+add-a-2 c =
     let t : rowFits (c .before .before .before .before .before .before .before .args .body .now) (c .before .before .before .before .loop .a) ≡ true = sym (c .before .before .row-fits .ensures) ∙ not-false (c .before .before .row-fits .result) (c .before .if1 .left) in
     record { fits = omega (arith, row-few (c .before .before .before .before .before .before .before .args .body .now) (c .before .before .before .before .loop .a) (rw t tt), c .word2 .ensures) }
 
@@ -77,7 +77,7 @@ loop-less c = search needs
 
 -- src/lib.rt:808:5
 loop-again : tie.Need-loop-again Inv-loop μ-loop
-loop-again c = 
+loop-again c =
     let t : rowFits (c .before .before .before .before .before .before .before .args .body .now) (c .before .before .before .before .loop .a) ≡ true = sym (c .before .before .row-fits .ensures) ∙ not-false (c .before .before .row-fits .result) (c .before .if1 .left) in
     rw (c .word2 .ensures) (
       row-bound (c .before .before .before .before .before .before .before .args .body .now) (c .before .before .before .before .loop .a) (c .before .before .before .before .loop .m) (rw t tt) (search needs) (c .before .before .before .before .loop .inv .0),

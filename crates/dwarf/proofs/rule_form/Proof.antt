@@ -36,7 +36,7 @@ signed-of-requires c κs = search needs
 -- src/lib.rt:345:9
 returns-2 : tie.Need-returns-2
 unfolding ruleForms formed formOf
-returns-2 c = 
+returns-2 c =
     let f : SFits w64 (c .signed-of .result) = search needs in
     rw (ne-eqb (c .before .before .before .before .before .args .rule .kind) 0 (c .before .before .before .if1 .left), eq-eqb (c .before .before .before .before .before .args .rule .kind) 1 (c .before .if2 .taken)) (ap (λ (z : ℤ). atCfaPlus z ∷ []) (toZ-ofZ f ∙ c .signed-of .ensures))
 
@@ -47,7 +47,7 @@ signed-of-requires-2 c κs = search needs
 -- src/lib.rt:349:9
 returns-3 : tie.Need-returns-3
 unfolding ruleForms formed formOf
-returns-3 c = 
+returns-3 c =
     let f : SFits w64 (c .signed-of2 .result) = search needs in
     rw (ne-eqb (c .before .before .before .before .before .before .before .args .rule .kind) 0 (c .before .before .before .before .before .if1 .left), ne-eqb (c .before .before .before .before .before .before .before .args .rule .kind) 1 (c .before .before .before .if2 .left), eq-eqb (c .before .before .before .before .before .before .before .args .rule .kind) 2 (c .before .if3 .taken)) (ap (λ (z : ℤ). cfaPlus z ∷ []) (toZ-ofZ f ∙ c .signed-of2 .ensures))
 

@@ -65,7 +65,7 @@ loop-less c = search needs
 
 -- src/lib.rt:486:5
 loop-again : tie.Need-loop-again Inv-loop μ-loop
-loop-again c = 
+loop-again c =
     scan-turn {c₁ = c .before .before .before .before .before .before .remember .result .cache} (c .before .before .before .before .before .before .before .before .before .loop .inv) (search needs) (c .before .before .before .before .before .before .before .rule-at .ensures) (c .before .before .before .before .before .before .before .before .before .before .before .pre .2) (c .before .before .before .before .before .before .remember .ensures .0) (c .before .before .before .before .before .before .remember .ensures .1 .0)
     (c .before .before .before .before .either .ensures ∙ ap (λ (t : Bool). c .before .before .before .before .before .before .before .before .before .loop .written || t) (c .before .before .before .before .before .rule-written .ensures ∙ ap (λ (t : Bool). any (cond t (ruleRules (c .before .before .before .before .before .before .before .before .before .before .before .args .family) (c .before .before .before .before .before .before .before .before .before .before .before .args .ra) (c .before .before .before .before .before .before .before .rule-at .result)) [])) (c .before .before .before .before .before .before .remember .ensures .1 .1)))
     (c .before .either2 .ensures ∙ ap (λ (t : Bool). c .before .before .before .before .before .before .before .before .before .loop .moved || t) (c .before .before .both .ensures ∙ ap (λ (t : Bool). eqb (c .before .before .before .before .before .before .before .rule-at .result .register) (c .before .before .before .before .before .before .before .before .before .before .before .args .ra) && t) (c .before .before .before .before .before .before .remember .ensures .1 .1)))

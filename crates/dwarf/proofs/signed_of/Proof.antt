@@ -37,7 +37,7 @@ returns c = simp (toZ-pos w64 {n = c .before .args .w} (c .if1 .taken), lt-ltb (
 -- src/lib.rt:89:1
 returns-2 : tie.Need-returns-2
 unfolding twos
-returns-2 c = 
+returns-2 c =
     let k = 18446744073709551615 - c .before .args .w in
     simp (toZ-pos w64 {n = k} (omega arith), below-zero k, toZ-ofZ {w = w64} {z = negsuc k} (record { sfits = omega arith }), le-ltb (c .before .args .w) 9223372036854775808 (c .if1 .left))
 

@@ -17,7 +17,7 @@ place-requires c κs = search needs
 
 -- src/lib.rt:220:5
 returns : tie.Need-returns
-returns c = 
+returns c =
     let long : length (c .before .args .self .register) ≡ 64 = search needs in
     ap (λ (n : ℕ). ltb n 64) (c .place .ensures) ∙ newly-place (c .before .args .self) (c .before .args .r) (omega arith) (omega arith)
 

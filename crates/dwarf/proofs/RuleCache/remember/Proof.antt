@@ -71,32 +71,32 @@ returns-2 c =
     )
 
 mul-self-3 : tie.Need-mul-self-3
-mul-self-3 c = 
+mul-self-3 c =
     let long : length (c .before .before .args .t1 .register) ≡ 64 = search needs in
     record { fits = omega (arith, newly-few (c .before .before .args .t1) (c .before .before .args .r) (omega arith) (c .before .before .pre), c .before .place .ensures) }
 
 element-write-self-3 : tie.Need-element-write-self-3
-element-write-self-3 c = 
+element-write-self-3 c =
     let long : length (c .before .before .args .t1 .register) ≡ 64 = search needs in
     omega (arith, newly-few (c .before .before .args .t1) (c .before .before .args .r) (omega arith) (c .before .before .pre), c .before .place .ensures)
 
 mul-self-4 : tie.Need-mul-self-4
-mul-self-4 c = 
+mul-self-4 c =
     let long : length (c .before .before .args .t1 .register) ≡ 64 = search needs in
     record { fits = omega (arith, newly-few (c .before .before .args .t1) (c .before .before .args .r) (omega arith) (c .before .before .pre), c .before .place .ensures) }
 
 element-write-self-4 : tie.Need-element-write-self-4
-element-write-self-4 c = 
+element-write-self-4 c =
     let long : length (c .before .before .args .t1 .register) ≡ 64 = search needs in
     omega (arith, newly-few (c .before .before .args .t1) (c .before .before .args .r) (omega arith) (c .before .before .pre), c .before .place .ensures)
 
 mul-self-5 : tie.Need-mul-self-5
-mul-self-5 c = 
+mul-self-5 c =
     let long : length (c .before .before .args .t1 .register) ≡ 64 = search needs in
     record { fits = omega (arith, newly-few (c .before .before .args .t1) (c .before .before .args .r) (omega arith) (c .before .before .pre), c .before .place .ensures) }
 
 element-write-self-5 : tie.Need-element-write-self-5
-element-write-self-5 c = 
+element-write-self-5 c =
     let long : length (c .before .before .args .t1 .register) ≡ 64 = search needs in
     omega (arith, newly-few (c .before .before .args .t1) (c .before .before .args .r) (omega arith) (c .before .before .pre), c .before .place .ensures)
 
@@ -104,7 +104,7 @@ add-self : tie.Need-add-self
 add-self c = search needs
 
 returns-3 : tie.Need-returns-3
-returns-3 c = 
+returns-3 c =
     let s = c .before in
     let a = s .before .args in
     let e = s .place .ensures in
