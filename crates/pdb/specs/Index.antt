@@ -224,10 +224,13 @@ pub pad-none : (ws : List ℕ) (a n : ℕ) → n ≤ 0 → unpadded (wordsFrom w
 unfolding wordsFrom lead
 pad-none ws a n h = let e : n ≡ 0 = omega arith in rw e
 
--- what the two searches for the ends have found
-pub trimmed : (ws : List ℕ) (a n b m r : ℕ) → lead (wordsFrom ws a n) ≡ wordsFrom ws b m → unpadded (wordsFrom ws b m) ≡ wordsFrom ws b r → trim (wordsFrom ws a n) ≡ wordsFrom ws b r
+-- what the two searches for the ends have found: s spaces first, r words behind them
+pub trimmed : (ws : List ℕ) (p c n s r : ℕ) → p ≡ word ws 12 → c ≡ word ws 13 → n ≡ word ws 14
+    → lead (wordsFrom ws (15 + 2 * p + 2 * c) n) ≡ wordsFrom ws (15 + 2 * p + 2 * c + s) (n - s)
+    → unpadded (wordsFrom ws (15 + 2 * p + 2 * c + s) (n - s)) ≡ wordsFrom ws (15 + 2 * p + 2 * c + s) r
+    → trim (program ws) ≡ wordsFrom ws (15 + 2 * p + 2 * c + s) r
 unfolding trim
-trimmed ws a n b m r e f = ap unpadded e ∙ f
+trimmed ws p c n s r e f g h k = ap trim (sym (program-at ws p c n e f g)) ∙ ap unpadded h ∙ k
 
 lead-all : (p : ℕ → Bool) (t : List ℕ) → T (all p t) → T (all p (lead t))
 unfolding lead

@@ -24,13 +24,20 @@ word-requires c κs = search needs
 
 returns : tie.Need-returns Inv-loop μ-loop
 unfolding printable
-returns c = let ws = c .before .before .before .before .before .args .body .now in let l = c .before .before .before .loop in
+returns c =
+    let c3 = c .before .before .before in
+    let c5 = c3 .before .before in
+    let ws = c5 .args .body .now in let l = c3 .loop in
     and-no (printable (word ws (l .a))) _ (rw (lt-leb 32 (word ws (l .a)) (omega (arith, c .before .word .ensures)))) ∙ sym (bytes-step ws (l .a) (l .k) (search needs)) ∙ l .inv .1
 
 returns-2 : tie.Need-returns-2 Inv-loop μ-loop
 unfolding printable
-returns-2 c = let ws = c .before .before .before .before .before .before .args .body .now in let l = c .before .before .before .before .loop in
-    and-no (printable (word ws (l .a))) _ (rw (le-leb 32 (word ws (l .a)) (omega (arith, c .before .before .word .ensures)), lt-leb (word ws (l .a)) 126 (omega (arith, c .before .before .word .ensures)))) ∙ sym (bytes-step ws (l .a) (l .k) (search needs)) ∙ l .inv .1
+returns-2 c =
+    let c2 = c .before .before in
+    let c4 = c2 .before .before in
+    let c6 = c4 .before .before in
+    let ws = c6 .args .body .now in let l = c4 .loop in
+    and-no (printable (word ws (l .a))) _ (rw (le-leb 32 (word ws (l .a)) (omega (arith, c2 .word .ensures)), lt-leb (word ws (l .a)) 126 (omega (arith, c2 .word .ensures)))) ∙ sym (bytes-step ws (l .a) (l .k) (search needs)) ∙ l .inv .1
 
 add-a : tie.Need-add-a Inv-loop μ-loop
 add-a c = search needs
@@ -43,8 +50,12 @@ loop-less c = search needs
 
 loop-again : tie.Need-loop-again Inv-loop μ-loop
 unfolding printable
-loop-again c = let ws = c .before .before .before .before .before .before .args .body .now in let l = c .before .before .before .before .loop in
-    (omega arith, and-yes (printable (word ws (l .a))) _ (rw (le-leb 32 (word ws (l .a)) (omega (arith, c .before .before .word .ensures)), le-leb (word ws (l .a)) 126 (omega (arith, c .before .before .word .ensures)))) ∙ sym (bytes-step ws (l .a) (l .k) (search needs)) ∙ l .inv .1)
+loop-again c =
+    let c2 = c .before .before in
+    let c4 = c2 .before .before in
+    let c6 = c4 .before .before in
+    let ws = c6 .args .body .now in let l = c4 .loop in
+    (omega arith, and-yes (printable (word ws (l .a))) _ (rw (le-leb 32 (word ws (l .a)) (omega (arith, c2 .word .ensures)), le-leb (word ws (l .a)) 126 (omega (arith, c2 .word .ensures)))) ∙ sym (bytes-step ws (l .a) (l .k) (search needs)) ∙ l .inv .1)
 
 returns-3 : tie.Need-returns-3 Inv-loop μ-loop
 unfolding wordsFrom

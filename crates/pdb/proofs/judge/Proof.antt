@@ -18,18 +18,31 @@ skipped-requires c κs = search needs
 
 returns-2 : tie.Need-returns-2
 unfolding pdbJudged
-returns-2 c = rw (sym (c .before .before .before .layout .ensures) ∙ not-false (c .before .before .before .layout .result) (c .before .before .if1 .left), sym (c .before .skipped .ensures) ∙ c .if2 .taken)
+returns-2 c =
+    let c2 = c .before .before in
+    let c3 = c2 .before in
+    rw (sym (c3 .layout .ensures) ∙ not-false (c3 .layout .result) (c2 .if1 .left), sym (c .before .skipped .ensures) ∙ c .if2 .taken)
 
 reach-requires : tie.Need-reach-requires
 reach-requires c κs = search needs
 
 returns-3 : tie.Need-returns-3
 unfolding pdbJudged
-returns-3 c = rw (sym (c .before .before .before .before .before .layout .ensures) ∙ not-false (c .before .before .before .before .before .layout .result) (c .before .before .before .before .if1 .left), sym (c .before .before .before .skipped .ensures) ∙ c .before .before .if2 .left, sym (c .before .reach .ensures) ∙ not-true (c .before .reach .result) (c .if3 .taken))
+returns-3 c =
+    let c2 = c .before .before in
+    let c3 = c2 .before in
+    let c4 = c3 .before in
+    let c5 = c4 .before in
+    rw (sym (c5 .layout .ensures) ∙ not-false (c5 .layout .result) (c4 .if1 .left), sym (c3 .skipped .ensures) ∙ c2 .if2 .left, sym (c .before .reach .ensures) ∙ not-true (c .before .reach .result) (c .if3 .taken))
 
 returns-4 : tie.Need-returns-4
 unfolding pdbJudged
-returns-4 c = rw (sym (c .before .before .before .before .before .layout .ensures) ∙ not-false (c .before .before .before .before .before .layout .result) (c .before .before .before .before .if1 .left), sym (c .before .before .before .skipped .ensures) ∙ c .before .before .if2 .left, sym (c .before .reach .ensures) ∙ not-false (c .before .reach .result) (c .if3 .left))
+returns-4 c =
+    let c2 = c .before .before in
+    let c3 = c2 .before in
+    let c4 = c3 .before in
+    let c5 = c4 .before in
+    rw (sym (c5 .layout .ensures) ∙ not-false (c5 .layout .result) (c4 .if1 .left), sym (c3 .skipped .ensures) ∙ c2 .if2 .left, sym (c .before .reach .ensures) ∙ not-false (c .before .reach .result) (c .if3 .left))
 
 pub judge-spec : {M : Type 1} → statement M
 judge-spec =

@@ -14,7 +14,10 @@ word-requires-2 c κs = search needs
 
 returns : tie.Need-returns
 unfolding maxStack
-returns c = rw (c .word2 .ensures, eq-eqb (word (c .before .before .before .before .args .body .now) 7) 1 (sym (c .before .before .word .ensures) ∙ c .before .if1 .taken))
+returns c =
+    let c2 = c .before .before in
+    let c4 = c2 .before .before in
+    rw (c .word2 .ensures, eq-eqb (word (c4 .args .body .now) 7) 1 (sym (c2 .word .ensures) ∙ c .before .if1 .taken))
 
 returns-2 : tie.Need-returns-2
 unfolding maxStack

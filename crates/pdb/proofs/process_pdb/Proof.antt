@@ -30,22 +30,35 @@ enum-told-2 : tie.Need-enum-told-2
 enum-told-2 c = search needs
 
 put-entry-requires : tie.Need-put-entry-requires
-put-entry-requires c κs = written (c .before .before .before .before .before .before .before .args .last) (c .before .before .before .before .before .before .before .args .body .now) (sym (c .before .before .before .before .judge .ensures) ∙ c .before .enum-told2 .given .1)
+put-entry-requires c κs =
+    let c4 = c .before .before .before .before in
+    let c7 = c4 .before .before .before in
+    written (c7 .args .last) (c7 .args .body .now) (sym (c4 .judge .ensures) ∙ c .before .enum-told2 .given .1)
 
 returns : tie.Need-returns
 unfolding pdbEntry
-returns c = rw (← c .before .before .before .before .before .judge .ensures, c .before .before .judged .given .1, c .unwritten .ensures) (record { number-is = refl; next-is = refl; put = put-none (omega arith) (omega arith) })
+returns c =
+    let c2 = c .before .before in
+    let c5 = c2 .before .before .before in
+    rw (← c5 .judge .ensures, c2 .judged .given .1, c .unwritten .ensures) (record { number-is = refl; next-is = refl; put = put-none (omega arith) (omega arith) })
 
 returns-2 : tie.Need-returns-2
 unfolding pdbEntry
-returns-2 c = rw (← c .before .before .before .before .judge .ensures, c .before .enum-told .given .1, c .unwritten2 .ensures) (record { number-is = refl; next-is = refl; put = put-none (omega arith) (omega arith) })
+returns-2 c =
+    let c4 = c .before .before .before .before in
+    rw (← c4 .judge .ensures, c .before .enum-told .given .1, c .unwritten2 .ensures) (record { number-is = refl; next-is = refl; put = put-none (omega arith) (omega arith) })
 
 same-length : tie.Need-same-length
 same-length c = search needs
 
 returns-3 : tie.Need-returns-3
 unfolding pdbEntry
-returns-3 c = rw (← c .before .before .before .before .before .before .before .judge .ensures, c .before .before .before .before .enum-told2 .given .1) (record { number-is = refl; next-is = c .before .before .before .before .before .before .own .ensures; put = c .before .before .put-entry .ensures })
+returns-3 c =
+    let c2 = c .before .before in
+    let c4 = c2 .before .before in
+    let c6 = c4 .before .before in
+    let c7 = c6 .before in
+    rw (← c7 .judge .ensures, c4 .enum-told2 .given .1) (record { number-is = refl; next-is = c6 .own .ensures; put = c2 .put-entry .ensures })
 
 pub process-pdb-spec : {M : Type 1} → statement M
 process-pdb-spec =

@@ -33,8 +33,11 @@ range-fits-requires c κs = search needs
 
 returns : tie.Need-returns Inv-loop μ-loop
 returns c =
-    let ws = c .before .before .before .before .before .before .args .body .now in let l = c .before .before .before .before .loop in
-    let f : rangeFits (rangeAt ws (l .a)) ≡ false = rw (c .before .before .range-at .ensures) at (sym (c .before .range-fits .ensures) ∙ not-true (c .before .range-fits .result) (c .if1 .taken)) in
+    let c2 = c .before .before in
+    let c4 = c2 .before .before in
+    let c6 = c4 .before .before in
+    let ws = c6 .args .body .now in let l = c4 .loop in
+    let f : rangeFits (rangeAt ws (l .a)) ≡ false = rw (c2 .range-at .ensures) at (sym (c .before .range-fits .ensures) ∙ not-true (c .before .range-fits .result) (c .if1 .taken)) in
     and-no (rangeFits (rangeAt ws (l .a))) _ f ∙ sym (fits-step ws (l .a) (l .k) (search needs)) ∙ l .inv .2
 
 starts-apart-requires : tie.Need-starts-apart-requires Inv-loop μ-loop
@@ -42,9 +45,14 @@ starts-apart-requires c κs = search needs
 
 returns-2 : tie.Need-returns-2 Inv-loop μ-loop
 returns-2 c =
-    let ws = c .before .before .before .before .before .before .before .before .args .body .now in let l = c .before .before .before .before .before .before .loop in
-    let f : rangeFits (rangeAt ws (l .a)) ≡ true = rw (c .before .before .before .before .range-at .ensures) at (sym (c .before .before .before .range-fits .ensures) ∙ not-false (c .before .before .before .range-fits .result) (c .before .before .if1 .left)) in
-    let g : apart (startOf (rangeAt ws (l .a))) (ranges ws (l .a + 2) (l .k - 1)) ≡ false = rw (c .before .before .before .before .range-at .ensures) at (sym (c .before .starts-apart .ensures) ∙ not-true (c .before .starts-apart .result) (c .if2 .taken)) in
+    let c2 = c .before .before in
+    let c3 = c2 .before in
+    let c4 = c3 .before in
+    let c6 = c4 .before .before in
+    let c8 = c6 .before .before in
+    let ws = c8 .args .body .now in let l = c6 .loop in
+    let f : rangeFits (rangeAt ws (l .a)) ≡ true = rw (c4 .range-at .ensures) at (sym (c3 .range-fits .ensures) ∙ not-false (c3 .range-fits .result) (c2 .if1 .left)) in
+    let g : apart (startOf (rangeAt ws (l .a))) (ranges ws (l .a + 2) (l .k - 1)) ≡ false = rw (c4 .range-at .ensures) at (sym (c .before .starts-apart .ensures) ∙ not-true (c .before .starts-apart .result) (c .if2 .taken)) in
     and-no (apart (startOf (rangeAt ws (l .a))) (ranges ws (l .a + 2) (l .k - 1))) _ g ∙ and-yes (rangeFits (rangeAt ws (l .a))) _ f
     ∙ sym (fits-step ws (l .a) (l .k) (search needs)) ∙ l .inv .2
 
@@ -53,9 +61,14 @@ loop-less c = search needs
 
 loop-again : tie.Need-loop-again Inv-loop μ-loop
 loop-again c =
-    let ws = c .before .before .before .before .before .before .before .before .args .body .now in let l = c .before .before .before .before .before .before .loop in
-    let f : rangeFits (rangeAt ws (l .a)) ≡ true = rw (c .before .before .before .before .range-at .ensures) at (sym (c .before .before .before .range-fits .ensures) ∙ not-false (c .before .before .before .range-fits .result) (c .before .before .if1 .left)) in
-    let g : apart (startOf (rangeAt ws (l .a))) (ranges ws (l .a + 2) (l .k - 1)) ≡ true = rw (c .before .before .before .before .range-at .ensures) at (sym (c .before .starts-apart .ensures) ∙ not-false (c .before .starts-apart .result) (c .if2 .left)) in (
+    let c2 = c .before .before in
+    let c3 = c2 .before in
+    let c4 = c3 .before in
+    let c6 = c4 .before .before in
+    let c8 = c6 .before .before in
+    let ws = c8 .args .body .now in let l = c6 .loop in
+    let f : rangeFits (rangeAt ws (l .a)) ≡ true = rw (c4 .range-at .ensures) at (sym (c3 .range-fits .ensures) ∙ not-false (c3 .range-fits .result) (c2 .if1 .left)) in
+    let g : apart (startOf (rangeAt ws (l .a))) (ranges ws (l .a + 2) (l .k - 1)) ≡ true = rw (c4 .range-at .ensures) at (sym (c .before .starts-apart .ensures) ∙ not-false (c .before .starts-apart .result) (c .if2 .left)) in (
       omega arith,
       omega arith,
       and-yes (apart (startOf (rangeAt ws (l .a))) (ranges ws (l .a + 2) (l .k - 1))) _ g ∙ and-yes (rangeFits (rangeAt ws (l .a))) _ f

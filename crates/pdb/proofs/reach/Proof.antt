@@ -30,14 +30,21 @@ add-if1 c = search needs
 
 returns : tie.Need-returns
 unfolding inReach
-returns c = rw (lt-leb (word (c .before .before .before .before .before .args .body .now) 1 + word (c .before .before .before .before .before .args .body .now) 3) 4294967295 (omega (arith, c .before .before .before .word .ensures, c .before .word3 .ensures)))
+returns c =
+    let c3 = c .before .before .before in
+    let c5 = c3 .before .before in
+    rw (lt-leb (word (c5 .args .body .now) 1 + word (c5 .args .body .now) 3) 4294967295 (omega (arith, c3 .word .ensures, c .before .word3 .ensures)))
 
 add-result : tie.Need-add-result
 add-result c = search needs
 
 returns-2 : tie.Need-returns-2
 unfolding inReach
-returns-2 c = rw (c .before .before .before .word .ensures, c .before .before .word2 .ensures, le-leb (word (c .before .before .before .before .before .args .body .now) 1 + word (c .before .before .before .before .before .args .body .now) 3) 4294967295 (omega (arith, c .before .before .before .word .ensures, c .before .word3 .ensures)))
+returns-2 c =
+    let c2 = c .before .before in
+    let c3 = c2 .before in
+    let c5 = c3 .before .before in
+    rw (c3 .word .ensures, c2 .word2 .ensures, le-leb (word (c5 .args .body .now) 1 + word (c5 .args .body .now) 3) 4294967295 (omega (arith, c3 .word .ensures, c .before .word3 .ensures)))
 
 pub reach-spec : {M : Type 1} → statement M
 reach-spec =

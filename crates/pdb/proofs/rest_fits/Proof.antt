@@ -47,41 +47,80 @@ add-if1 c = search needs
 
 returns : tie.Need-returns
 unfolding restFits
-returns c = let ws = c .before .before .before .before .before .args .body .now in
-    rw (ne-eqb (15 + 2 * word ws 12 + 2 * word ws 13 + word ws 14) (length ws) (λ e. c .if1 .taken (omega (arith, e, c .before .before .before .word .ensures, c .before .before .word2 .ensures, c .before .word3 .ensures))))
+returns c =
+    let c2 = c .before .before in
+    let c3 = c2 .before in
+    let c5 = c3 .before .before in
+    let ws = c5 .args .body .now in
+    rw (ne-eqb (15 + 2 * word ws 12 + 2 * word ws 13 + word ws 14) (length ws) (λ e. c .if1 .taken (omega (arith, e, c3 .word .ensures, c2 .word2 .ensures, c .before .word3 .ensures))))
 
 ranges-fit-requires : tie.Need-ranges-fit-requires
-ranges-fit-requires c κs = (omega arith, omega (arith, counts-prologs (c .before .before .before .before .before .args .body .now) (c .before .before .before .before .before .pre), c .before .before .before .word .ensures))
+ranges-fit-requires c κs =
+    let c3 = c .before .before .before in
+    let c5 = c3 .before .before in
+    (omega arith, omega (arith, counts-prologs (c5 .args .body .now) (c5 .pre), c3 .word .ensures))
 
 returns-2 : tie.Need-returns-2
 unfolding restFits
-returns-2 c = let ws = c .before .before .before .before .before .before .before .args .body .now in
-    let e : 15 + 2 * word ws 12 + 2 * word ws 13 + word ws 14 ≡ length ws = omega (arith, c .before .before .before .before .before .word .ensures, c .before .before .before .before .word2 .ensures, c .before .before .before .word3 .ensures, c .before .before .if1 .left) in
-    let f : rangesFit (prologs ws) ≡ false = ap rangesFit (sym (prologs-at ws (c .before .before .before .before .before .word .result) (c .before .before .before .before .before .word .ensures))) ∙ sym (c .before .ranges-fit .ensures) ∙ not-true (c .before .ranges-fit .result) (c .if2 .taken) in
+returns-2 c =
+    let c2 = c .before .before in
+    let c3 = c2 .before in
+    let c4 = c3 .before in
+    let c5 = c4 .before in
+    let c7 = c5 .before .before in
+    let ws = c7 .args .body .now in
+    let e : 15 + 2 * word ws 12 + 2 * word ws 13 + word ws 14 ≡ length ws = omega (arith, c5 .word .ensures, c4 .word2 .ensures, c3 .word3 .ensures, c2 .if1 .left) in
+    let f : rangesFit (prologs ws) ≡ false = ap rangesFit (sym (prologs-at ws (c5 .word .result) (c5 .word .ensures))) ∙ sym (c .before .ranges-fit .ensures) ∙ not-true (c .before .ranges-fit .result) (c .if2 .taken) in
     rw (eq-eqb (15 + 2 * word ws 12 + 2 * word ws 13 + word ws 14) (length ws) e, f)
 
 ranges-fit-requires-2 : tie.Need-ranges-fit-requires-2
-ranges-fit-requires-2 c κs = (omega (arith, counts-prologs (c .before .before .before .before .before .before .before .args .body .now) (c .before .before .before .before .before .before .before .pre), c .before .before .before .before .before .word .ensures), omega (arith, counts-codes (c .before .before .before .before .before .before .before .args .body .now) (c .before .before .before .before .before .before .before .pre), c .before .before .before .before .word2 .ensures))
+ranges-fit-requires-2 c κs =
+    let c4 = c .before .before .before .before in
+    let c5 = c4 .before in
+    let c7 = c5 .before .before in
+    (omega (arith, counts-prologs (c7 .args .body .now) (c7 .pre), c5 .word .ensures), omega (arith, counts-codes (c7 .args .body .now) (c7 .pre), c4 .word2 .ensures))
 
 returns-3 : tie.Need-returns-3
 unfolding restFits
-returns-3 c = let ws = c .before .before .before .before .before .before .before .before .before .args .body .now in
-    let e : 15 + 2 * word ws 12 + 2 * word ws 13 + word ws 14 ≡ length ws = omega (arith, c .before .before .before .before .before .before .before .word .ensures, c .before .before .before .before .before .before .word2 .ensures, c .before .before .before .before .before .word3 .ensures, c .before .before .before .before .if1 .left) in
-    let f : rangesFit (prologs ws) ≡ true = ap rangesFit (sym (prologs-at ws (c .before .before .before .before .before .before .before .word .result) (c .before .before .before .before .before .before .before .word .ensures))) ∙ sym (c .before .before .before .ranges-fit .ensures) ∙ not-false (c .before .before .before .ranges-fit .result) (c .before .before .if2 .left) in
-    let g : rangesFit (codes ws) ≡ false = ap rangesFit (sym (codes-at ws (c .before .before .before .before .before .before .before .word .result) (c .before .before .before .before .before .before .word2 .result) (c .before .before .before .before .before .before .before .word .ensures) (c .before .before .before .before .before .before .word2 .ensures))) ∙ sym (c .before .ranges-fit2 .ensures) ∙ not-true (c .before .ranges-fit2 .result) (c .if3 .taken) in
+returns-3 c =
+    let c2 = c .before .before in
+    let c3 = c2 .before in
+    let c4 = c3 .before in
+    let c5 = c4 .before in
+    let c6 = c5 .before in
+    let c7 = c6 .before in
+    let c9 = c7 .before .before in
+    let ws = c9 .args .body .now in
+    let e : 15 + 2 * word ws 12 + 2 * word ws 13 + word ws 14 ≡ length ws = omega (arith, c7 .word .ensures, c6 .word2 .ensures, c5 .word3 .ensures, c4 .if1 .left) in
+    let f : rangesFit (prologs ws) ≡ true = ap rangesFit (sym (prologs-at ws (c7 .word .result) (c7 .word .ensures))) ∙ sym (c3 .ranges-fit .ensures) ∙ not-false (c3 .ranges-fit .result) (c2 .if2 .left) in
+    let g : rangesFit (codes ws) ≡ false = ap rangesFit (sym (codes-at ws (c7 .word .result) (c6 .word2 .result) (c7 .word .ensures) (c6 .word2 .ensures))) ∙ sym (c .before .ranges-fit2 .ensures) ∙ not-true (c .before .ranges-fit2 .result) (c .if3 .taken) in
     rw (eq-eqb (15 + 2 * word ws 12 + 2 * word ws 13 + word ws 14) (length ws) e, f, g)
 
 bytes-fit-requires : tie.Need-bytes-fit-requires
-bytes-fit-requires c κs = (omega (arith, counts-prologs (c .before .before .before .before .before .before .before .before .before .args .body .now) (c .before .before .before .before .before .before .before .before .before .pre), counts-codes (c .before .before .before .before .before .before .before .before .before .args .body .now) (c .before .before .before .before .before .before .before .before .before .pre), c .before .before .before .before .before .before .before .word .ensures, c .before .before .before .before .before .before .word2 .ensures), omega (arith, counts-length (c .before .before .before .before .before .before .before .before .before .args .body .now) (c .before .before .before .before .before .before .before .before .before .pre), c .before .before .before .before .before .word3 .ensures))
+bytes-fit-requires c κs =
+    let c5 = c .before .before .before .before .before in
+    let c6 = c5 .before in
+    let c7 = c6 .before in
+    let c9 = c7 .before .before in
+    (omega (arith, counts-prologs (c9 .args .body .now) (c9 .pre), counts-codes (c9 .args .body .now) (c9 .pre), c7 .word .ensures, c6 .word2 .ensures), omega (arith, counts-length (c9 .args .body .now) (c9 .pre), c5 .word3 .ensures))
 
 returns-4 : tie.Need-returns-4
 unfolding restFits
-returns-4 c = let ws = c .before .before .before .before .before .before .before .before .before .before .args .body .now in
-    let e : 15 + 2 * word ws 12 + 2 * word ws 13 + word ws 14 ≡ length ws = omega (arith, c .before .before .before .before .before .before .before .before .word .ensures, c .before .before .before .before .before .before .before .word2 .ensures, c .before .before .before .before .before .before .word3 .ensures, c .before .before .before .before .before .if1 .left) in
-    let f : rangesFit (prologs ws) ≡ true = ap rangesFit (sym (prologs-at ws (c .before .before .before .before .before .before .before .before .word .result) (c .before .before .before .before .before .before .before .before .word .ensures))) ∙ sym (c .before .before .before .before .ranges-fit .ensures) ∙ not-false (c .before .before .before .before .ranges-fit .result) (c .before .before .before .if2 .left) in
-    let g : rangesFit (codes ws) ≡ true = ap rangesFit (sym (codes-at ws (c .before .before .before .before .before .before .before .before .word .result) (c .before .before .before .before .before .before .before .word2 .result) (c .before .before .before .before .before .before .before .before .word .ensures) (c .before .before .before .before .before .before .before .word2 .ensures))) ∙ sym (c .before .before .ranges-fit2 .ensures) ∙ not-false (c .before .before .ranges-fit2 .result) (c .before .if3 .left) in
+returns-4 c =
+    let c2 = c .before .before in
+    let c3 = c2 .before in
+    let c4 = c3 .before in
+    let c5 = c4 .before in
+    let c6 = c5 .before in
+    let c7 = c6 .before in
+    let c8 = c7 .before in
+    let c10 = c8 .before .before in
+    let ws = c10 .args .body .now in
+    let e : 15 + 2 * word ws 12 + 2 * word ws 13 + word ws 14 ≡ length ws = omega (arith, c8 .word .ensures, c7 .word2 .ensures, c6 .word3 .ensures, c5 .if1 .left) in
+    let f : rangesFit (prologs ws) ≡ true = ap rangesFit (sym (prologs-at ws (c8 .word .result) (c8 .word .ensures))) ∙ sym (c4 .ranges-fit .ensures) ∙ not-false (c4 .ranges-fit .result) (c3 .if2 .left) in
+    let g : rangesFit (codes ws) ≡ true = ap rangesFit (sym (codes-at ws (c8 .word .result) (c7 .word2 .result) (c8 .word .ensures) (c7 .word2 .ensures))) ∙ sym (c2 .ranges-fit2 .ensures) ∙ not-false (c2 .ranges-fit2 .result) (c .before .if3 .left) in
     rw (eq-eqb (15 + 2 * word ws 12 + 2 * word ws 13 + word ws 14) (length ws) e, f, g)
-    (c .bytes-fit .ensures ∙ ap (all printable) (program-at ws (c .before .before .before .before .before .before .before .before .word .result) (c .before .before .before .before .before .before .before .word2 .result) (c .before .before .before .before .before .before .word3 .result) (c .before .before .before .before .before .before .before .before .word .ensures) (c .before .before .before .before .before .before .before .word2 .ensures) (c .before .before .before .before .before .before .word3 .ensures)))
+    (c .bytes-fit .ensures ∙ ap (all printable) (program-at ws (c8 .word .result) (c7 .word2 .result) (c6 .word3 .result) (c8 .word .ensures) (c7 .word2 .ensures) (c6 .word3 .ensures)))
 
 pub rest-fits-spec : {M : Type 1} → statement M
 rest-fits-spec =

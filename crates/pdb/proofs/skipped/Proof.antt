@@ -21,7 +21,10 @@ repeated-requires c κs = search needs
 
 returns-2 : tie.Need-returns-2
 unfolding pdbSkipped
-returns-2 c = rw (le-ltb 2147483647 (word (c .before .before .before .before .before .args .body .now) 2) (omega (arith, c .before .before .before .word .ensures)), ← c .before .own .ensures) (c .repeated .ensures)
+returns-2 c =
+    let c3 = c .before .before .before in
+    let c5 = c3 .before .before in
+    rw (le-ltb 2147483647 (word (c5 .args .body .now) 2) (omega (arith, c3 .word .ensures)), ← c .before .own .ensures) (c .repeated .ensures)
 
 pub skipped-spec : {M : Type 1} → statement M
 skipped-spec = tie.close (tie.spec word-requires returns own-requires repeated-requires returns-2)

@@ -24,8 +24,12 @@ word-requires : tie.Need-word-requires Inv-loop μ-loop
 word-requires c κs = search needs
 
 returns : tie.Need-returns Inv-loop μ-loop
-returns c = let ws = c .before .before .before .before .before .before .args .body .now in let l = c .before .before .before .before .loop in
-    and-no (not (eqb (word ws (l .a)) (c .before .before .before .before .before .before .args .start .0))) _ (ap not (eq-eqb (word ws (l .a)) (c .before .before .before .before .before .before .args .start .0) (sym (c .before .before .word .ensures) ∙ c .if1 .taken))) ∙ sym (apart-step ws (c .before .before .before .before .before .before .args .start .0) (l .a) (l .k) (search needs)) ∙ l .inv .1
+returns c =
+    let c2 = c .before .before in
+    let c4 = c2 .before .before in
+    let c6 = c4 .before .before in
+    let ws = c6 .args .body .now in let l = c4 .loop in
+    and-no (not (eqb (word ws (l .a)) (c6 .args .start .0))) _ (ap not (eq-eqb (word ws (l .a)) (c6 .args .start .0) (sym (c2 .word .ensures) ∙ c .if1 .taken))) ∙ sym (apart-step ws (c6 .args .start .0) (l .a) (l .k) (search needs)) ∙ l .inv .1
 
 add-a : tie.Need-add-a Inv-loop μ-loop
 add-a c = search needs
@@ -37,8 +41,12 @@ loop-less : tie.Need-loop-less Inv-loop μ-loop
 loop-less c = search needs
 
 loop-again : tie.Need-loop-again Inv-loop μ-loop
-loop-again c = let ws = c .before .before .before .before .before .before .args .body .now in let l = c .before .before .before .before .loop in
-    (omega arith, and-yes (not (eqb (word ws (l .a)) (c .before .before .before .before .before .before .args .start .0))) _ (ap not (ne-eqb (word ws (l .a)) (c .before .before .before .before .before .before .args .start .0) (λ e. c .if1 .left (c .before .before .word .ensures ∙ e)))) ∙ sym (apart-step ws (c .before .before .before .before .before .before .args .start .0) (l .a) (l .k) (search needs)) ∙ l .inv .1)
+loop-again c =
+    let c2 = c .before .before in
+    let c4 = c2 .before .before in
+    let c6 = c4 .before .before in
+    let ws = c6 .args .body .now in let l = c4 .loop in
+    (omega arith, and-yes (not (eqb (word ws (l .a)) (c6 .args .start .0))) _ (ap not (ne-eqb (word ws (l .a)) (c6 .args .start .0) (λ e. c .if1 .left (c2 .word .ensures ∙ e)))) ∙ sym (apart-step ws (c6 .args .start .0) (l .a) (l .k) (search needs)) ∙ l .inv .1)
 
 returns-2 : tie.Need-returns-2 Inv-loop μ-loop
 unfolding apart ranges
