@@ -1,3 +1,4 @@
 pub mod Dwarf
 pub mod Cache
 pub mod Index
+pub mod Sense
