@@ -2,3 +2,4 @@ pub mod Dwarf
 pub mod Cache
 pub mod Index
 pub mod Sense
+pub mod Worked
