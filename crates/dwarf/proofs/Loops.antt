@@ -1,6 +1,6 @@
 -- What holds at each turn of the loops: what is left from here gives what all gives.
 use mathlib.Core.Path.{_≡_, refl, sym, ap, ap₂, _∙_}
-use Prim.Native.Nat.{ℕ, zero, suc, _+_, _-_, _*_, _^_, _≤_, _<_}
+use Prim.Native.Nat.{ℕ, _+_, _-_, _*_, _≤_, _<_}
 use native.Mathlib.Omega.{arith}
 use mathlib.Core.Bool.{Bool, true, false, not, cond, _&&_, _||_}
 use mathlib.Core.List.{List, [], _∷_, _++_}
@@ -10,12 +10,11 @@ use borrow.Author.Tests.{lt-ltb, le-ltb, lt-leb, le-leb, leb-false, ltb-true, lt
 use Rattle.text.specs.Text.{MAX, Put, Left}
 use Rattle.text.specs.Text.Laws.{left-all, left-put, left-as, left-none}
 use Rattle.text.specs.Tests.{and-l, and-r}
-use Rattle.lines.specs.Lines.{Rule, rulesText, render}
+use Rattle.lines.specs.Lines.{rulesText, render}
 use Rattle.lines.specs.Lines.Laws.{rules-append, render-append}
 use Rattle.dwarf.specs.declared.RegisterRule.{RegisterRule}
 use Rattle.dwarf.specs.declared.RuleCache.{RuleCache}
 use Rattle.dwarf.specs.declared.Met.{Met}
-use Rattle.dwarf.specs.declared.RowScan.{RowScan}
 use Rattle.dwarf.specs.declared.RowState.{RowState}
 use Rattle.dwarf.specs.declared.Fde.{Fde}
 use Rattle.dwarf.specs.Dwarf.{word, wide, ruleAt, rulesFrom, ruleCount, nextRow, rowAt, rowsFrom, rowCount, rows, lastEnd, anyBelow, registers, distinct, rulesOf, member, once, rowFits, rowsFit, dwarfLayout, Seen, differs, remember, ruleRules, seenAfter, ranRules, ranMoved, ranRow, ranRows, CfaSeen, noCfa, lastCfa, nothingSeen}
@@ -253,7 +252,9 @@ module _ {ws : List ℕ} {c : RuleCache} {a m : ℕ} where
   pub met-over : {r : Met} → MetLeft ws c a m → 0 < m → Known c (rowAt ws a .rules) r → r .over ≡ true
       → false ≡ leb (distinct [] (registers (rulesOf (rows ws)))) 64
   met-over {r} l h k e = sym (lt-leb (distinct [] (registers (rulesOf (rows ws)))) 64 (omega (
-    arith, l .counts, fresh-rows ws (lookup c) a m h,
+    arith,
+    l .counts,
+    fresh-rows ws (lookup c) a m h,
     ltb-true 64 (c .count + fresh (lookup c) (rowAt ws a .rules)) (sym (k .tells) ∙ e),
   )))
 
@@ -261,8 +262,13 @@ module _ {ws : List ℕ} {c : RuleCache} {a m : ℕ} where
   met-turn {r} l h k e = record {
     rest = rest-turn (l .rest) h;
     few = omega (arith, k .counts e, ltb-false 64 (c .count + fresh (lookup c) (rowAt ws a .rules)) (sym (k .tells) ∙ e));
-    counts = omega (arith, l .counts, fresh-rows ws (lookup c) a m h, k .counts e,
-      ap (λ (g : ℕ → Seen). fresh g (rulesOf (rowsFrom ws (m - 1) (nextRow ws a)))) (k .sees e));
+    counts = omega (
+      arith,
+      l .counts,
+      fresh-rows ws (lookup c) a m h,
+      k .counts e,
+      ap (λ (g : ℕ → Seen). fresh g (rulesOf (rowsFrom ws (m - 1) (nextRow ws a)))) (k .sees e),
+    );
   }
 
   pub met-done : MetLeft ws c a m → m ≤ 0 → true ≡ leb (distinct [] (registers (rulesOf (rows ws)))) 64
@@ -299,8 +305,13 @@ module _ {ws : List ℕ} {e : Fde} {d : List ℕ} {at : ℕ} {d₁ : List ℕ} {
       → RowsLeft ws e d at d₂ q r (nextRow ws a) (m - 1)
   lines-turn {d₂} {q} {r} l h x y = record {
     rest = rest-turn (l .rest) h;
-    room = omega (arith, l .room, fresh-rows ws (lookup (s .rules)) a m h, y .counts,
-      ap (λ (g : ℕ → Seen). fresh g (rulesOf (rowsFrom ws (m - 1) (nextRow ws a)))) (y .sees));
+    room = omega (
+      arith,
+      l .room,
+      fresh-rows ws (lookup (s .rules)) a m h,
+      y .counts,
+      ap (λ (g : ℕ → Seen). fresh g (rulesOf (rowsFrom ws (m - 1) (nextRow ws a)))) (y .sees),
+    );
     text = left-as (left-put (next-row l h) x) (ap₂ (λ (x : CfaSeen) (g : ℕ → Seen). render false (ranRows e x g (rowsFrom ws (m - 1) (nextRow ws a)))) (sym (y .cfa-is)) (sym (y .sees)));
   }
 

@@ -16,11 +16,11 @@ use Rattle.lines.specs.Rules.Laws.{cfi-ok}
 use Rattle.entry.specs.declared.Judged.{Judged}
 use Rattle.entry.specs.declared.Judged.the-variants.{Refuse, Skip, Write}
 use Rattle.entry.specs.declared.Last.{Last}
-use Rattle.entry.specs.Entry.{Entry, comesTo, ifWritten}
+use Rattle.entry.specs.Entry.{comesTo, ifWritten}
 use Rattle.dwarf.specs.declared.RegisterRule.{RegisterRule}
 use Rattle.dwarf.specs.declared.CfaRule.{CfaRule}
 use Rattle.dwarf.specs.declared.Fde.{Fde}
-use Rattle.dwarf.specs.Dwarf.{twos, Row, rulesFrom, ruleCount, nextRow, rowAt, rowsFrom, rowCount, rows, fdeOf, registers, member, once, rulesFit, cfaFits, rowFits, rowsFit, nameForm, ruleForms, named, ruleRules, cfaPlusRules, cfaRules, raRules, defaultRules, lineOf, rowLine, Seen, never, seen, differs, CfaSeen, noCfa, lastCfa, cfaDiffers, remember, seenAfter, ranRules, ranMoved, ranOf, ranRow, ranRows, nothingSeen, dwarfJudged, dwarfText, dwarfEntry}
+use Rattle.dwarf.specs.Dwarf.{twos, Row, rulesFrom, ruleCount, nextRow, rowsFrom, rowCount, rows, fdeOf, registers, member, once, rulesFit, cfaFits, rowFits, rowsFit, nameForm, ruleForms, named, ruleRules, cfaPlusRules, cfaRules, raRules, defaultRules, lineOf, rowLine, Seen, never, seen, differs, CfaSeen, noCfa, lastCfa, cfaDiffers, remember, seenAfter, ranRules, ranMoved, ranOf, ranRow, ranRows, nothingSeen, dwarfJudged, dwarfText, dwarfEntry}
 use Rattle.dwarf.specs.Index.{layout-rows, written}
 
 -- ---- the last earlier row
@@ -139,15 +139,19 @@ ran-new : (f ra : ℕ) (c : ℕ → Seen) (xs : List RegisterRule) → T (once (
 unfolding ranRules newRules once registers
 ran-new f ra c [] h = refl
 ran-new f ra c (x ∷ xs) h =
-    rw (ran-new f ra (remember c x) xs (and-r (not (member (x .register) (registers xs))) _ h),
-      new-free f ra c x xs (is-false (member (x .register) (registers xs)) (and-l (not (member (x .register) (registers xs))) _ h)))
+    rw (
+      ran-new f ra (remember c x) xs (and-r (not (member (x .register) (registers xs))) _ h),
+      new-free f ra c x xs (is-false (member (x .register) (registers xs)) (and-l (not (member (x .register) (registers xs))) _ h)),
+    )
 
 ran-ra : (ra : ℕ) (c : ℕ → Seen) (xs : List RegisterRule) → T (once (registers xs)) → ranMoved ra c xs ≡ raDiffers ra c xs
 unfolding ranMoved raDiffers once registers
 ran-ra ra c [] h = refl
 ran-ra ra c (x ∷ xs) h =
-    rw (ran-ra ra (remember c x) xs (and-r (not (member (x .register) (registers xs))) _ h),
-      ra-free 0 ra c x xs (is-false (member (x .register) (registers xs)) (and-l (not (member (x .register) (registers xs))) _ h)))
+    rw (
+      ran-ra ra (remember c x) xs (and-r (not (member (x .register) (registers xs))) _ h),
+      ra-free 0 ra c x xs (is-false (member (x .register) (registers xs)) (and-l (not (member (x .register) (registers xs))) _ h)),
+    )
 
 -- ---- all rows
 

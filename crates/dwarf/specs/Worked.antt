@@ -1,8 +1,8 @@
 -- Worked DWARF bodies, as one table: each with the refusal's number or 0 and the text, worked out by hand from document 01.
 
 use Prim.Native.Nat.{ℕ}
-use mathlib.Core.Bool.{Bool, true, false, _&&_}
-use mathlib.Core.List.{List, [], _∷_, _++_}
+use mathlib.Core.Bool.{Bool, false, _&&_}
+use mathlib.Core.List.{List, [], _∷_}
 use lib.Dec.{T, eqb}
 use Rattle.text.specs.Text.{ascii}
 use Rattle.text.specs.Tests.{all, eqw}

@@ -1,18 +1,16 @@
+-- `remember`: the same rule leaves all as it was, another replaces it at its place, a new register comes behind the others.
 use borrow.Author.Needs.{needs}
 use native.Mathlib.Omega.{arith}
-use Prim.Native.Nat.{ℕ, _≤_, _<_}
-use mathlib.Core.Path.{_≡_, sym, _∙_, fun-ext}
+use Prim.Native.Nat.{_≤_, _<_}
+use mathlib.Core.Path.{_≡_, fun-ext}
 use mathlib.Core.Logic.{⊎-elim}
 use lib.ListN.{length, getD}
 use Rattle.dwarf.specs.Dwarf.{differs, seen}
-use Rattle.dwarf.specs.Cache.{placeOf, lookup}
+use Rattle.dwarf.specs.Cache.{placeOf}
 use Rattle.dwarf.proofs.Store.{kept, replaced, appended, differs-at, same-rule, other-kind, other-value, differs-new, place-le, newly-at, newly-not, newly-few}
 use mathlib.Core.Bool.{true, false}
 use Rattle.dwarf.proofs.RuleCache.remember.Statement.{statement}
 use Rattle.dwarf.proofs.RuleCache.remember.Tie as tie
-use Rattle.dwarf.proofs.RuleCache.remember.Reads as reads
-use Rattle.dwarf.proofs.RuleCache.remember.Lts as lts
-use Rattle.dwarf.proofs.RuleCache.place.Reads as place-reads
 
 place-requires : tie.Need-place-requires
 place-requires c κs = search needs
@@ -71,32 +69,32 @@ returns-2 c =
     )
 
 mul-self-3 : tie.Need-mul-self-3
-mul-self-3 c = 
+mul-self-3 c =
     let long : length (c .before .before .args .t1 .register) ≡ 64 = search needs in
     record { fits = omega (arith, newly-few (c .before .before .args .t1) (c .before .before .args .r) (omega arith) (c .before .before .pre), c .before .place .ensures) }
 
 element-write-self-3 : tie.Need-element-write-self-3
-element-write-self-3 c = 
+element-write-self-3 c =
     let long : length (c .before .before .args .t1 .register) ≡ 64 = search needs in
     omega (arith, newly-few (c .before .before .args .t1) (c .before .before .args .r) (omega arith) (c .before .before .pre), c .before .place .ensures)
 
 mul-self-4 : tie.Need-mul-self-4
-mul-self-4 c = 
+mul-self-4 c =
     let long : length (c .before .before .args .t1 .register) ≡ 64 = search needs in
     record { fits = omega (arith, newly-few (c .before .before .args .t1) (c .before .before .args .r) (omega arith) (c .before .before .pre), c .before .place .ensures) }
 
 element-write-self-4 : tie.Need-element-write-self-4
-element-write-self-4 c = 
+element-write-self-4 c =
     let long : length (c .before .before .args .t1 .register) ≡ 64 = search needs in
     omega (arith, newly-few (c .before .before .args .t1) (c .before .before .args .r) (omega arith) (c .before .before .pre), c .before .place .ensures)
 
 mul-self-5 : tie.Need-mul-self-5
-mul-self-5 c = 
+mul-self-5 c =
     let long : length (c .before .before .args .t1 .register) ≡ 64 = search needs in
     record { fits = omega (arith, newly-few (c .before .before .args .t1) (c .before .before .args .r) (omega arith) (c .before .before .pre), c .before .place .ensures) }
 
 element-write-self-5 : tie.Need-element-write-self-5
-element-write-self-5 c = 
+element-write-self-5 c =
     let long : length (c .before .before .args .t1 .register) ≡ 64 = search needs in
     omega (arith, newly-few (c .before .before .args .t1) (c .before .before .args .r) (omega arith) (c .before .before .pre), c .before .place .ensures)
 
@@ -104,7 +102,7 @@ add-self : tie.Need-add-self
 add-self c = search needs
 
 returns-3 : tie.Need-returns-3
-returns-3 c = 
+returns-3 c =
     let s = c .before in
     let a = s .before .args in
     let e = s .place .ensures in
