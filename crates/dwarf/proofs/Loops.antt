@@ -1,6 +1,6 @@
 -- What holds at each turn of the loops: what is left from here gives what all gives.
 use mathlib.Core.Path.{_≡_, refl, sym, ap, ap₂, _∙_}
-use Prim.Native.Nat.{ℕ, zero, suc, _+_, _-_, _*_, _^_, _≤_, _<_}
+use Prim.Native.Nat.{ℕ, _+_, _-_, _*_, _≤_, _<_}
 use native.Mathlib.Omega.{arith}
 use mathlib.Core.Bool.{Bool, true, false, not, cond, _&&_, _||_}
 use mathlib.Core.List.{List, [], _∷_, _++_}
@@ -10,12 +10,11 @@ use borrow.Author.Tests.{lt-ltb, le-ltb, lt-leb, le-leb, leb-false, ltb-true, lt
 use Rattle.text.specs.Text.{MAX, Put, Left}
 use Rattle.text.specs.Text.Laws.{left-all, left-put, left-as, left-none}
 use Rattle.text.specs.Tests.{and-l, and-r}
-use Rattle.lines.specs.Lines.{Rule, rulesText, render}
+use Rattle.lines.specs.Lines.{rulesText, render}
 use Rattle.lines.specs.Lines.Laws.{rules-append, render-append}
 use Rattle.dwarf.specs.declared.RegisterRule.{RegisterRule}
 use Rattle.dwarf.specs.declared.RuleCache.{RuleCache}
 use Rattle.dwarf.specs.declared.Met.{Met}
-use Rattle.dwarf.specs.declared.RowScan.{RowScan}
 use Rattle.dwarf.specs.declared.RowState.{RowState}
 use Rattle.dwarf.specs.declared.Fde.{Fde}
 use Rattle.dwarf.specs.Dwarf.{word, wide, ruleAt, rulesFrom, ruleCount, nextRow, rowAt, rowsFrom, rowCount, rows, lastEnd, anyBelow, registers, distinct, rulesOf, member, once, rowFits, rowsFit, dwarfLayout, Seen, differs, remember, ruleRules, seenAfter, ranRules, ranMoved, ranRow, ranRows, CfaSeen, noCfa, lastCfa, nothingSeen}

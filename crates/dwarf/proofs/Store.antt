@@ -1,16 +1,16 @@
 -- What a store does to the rules last seen.
 use mathlib.Core.List.{List, [], _∷_, _++_}
 use mathlib.Core.Path.{_≡_, refl, ap, sym, _∙_}
-use mathlib.Core.Bool.{Bool, true, false, not, cond, _&&_}
+use mathlib.Core.Bool.{Bool, true, false, cond}
 use Prim.Native.Nat.{ℕ, _+_, _≤_, _<_}
 use native.Mathlib.Numerals.{add-one}
 use native.Mathlib.Omega.{arith}
-use lib.ListN.{length, take, getD, set, length-set}
-use lib.Seq.{length-take-le, getD-take, getD-set-same, getD-set-other, take-suc-set}
+use lib.ListN.{length, take, getD, set}
+use lib.Seq.{length-take-le, getD-set-same, getD-set-other, take-suc-set}
 use lib.Dec.{eqb, ltb, leb}
 use borrow.Author.Tests.{eq-eqb, ne-eqb, eqb-true, eqb-false, lt-ltb, le-ltb, ltb-true, ltb-false, le-leb, lt-leb}
 use Rattle.dwarf.specs.declared.RuleCache.{RuleCache}
-use Rattle.dwarf.specs.Dwarf.{Seen, never, seen, differs, remembered}
+use Rattle.dwarf.specs.Dwarf.{Seen, never, seen, differs}
 use Rattle.dwarf.specs.Cache.{firstIn, placeOf, lookup, newly}
 use Rattle.dwarf.proofs.Places.{first-le, first-holds, first-front, first-tail}
 

@@ -1,15 +1,14 @@
 -- One step of each definition over the words, as the code's loops take them, and what the layout gives them.
-use mathlib.Core.Path.{_≡_, refl, sym, ap, _∙_}
-use Prim.Native.Nat.{ℕ, zero, suc, _+_, _-_, _*_, _^_, _≤_, _<_}
+use mathlib.Core.Path.{_≡_, refl}
+use Prim.Native.Nat.{ℕ, zero, suc, _+_, _-_, _*_, _≤_, _<_}
 use native.Mathlib.Omega.{arith}
-use mathlib.Core.Bool.{Bool, true, false, not, cond, _&&_, _||_}
+use mathlib.Core.Bool.{Bool, true, false, cond, _&&_, _||_}
 use mathlib.Core.List.{List, [], _∷_, _++_}
 use lib.Dec.{T, ltb, leb, eqb, leb→le}
-use Rattle.text.specs.Tests.{and-l, and-r, both}
-use Rattle.entry.specs.declared.Judged.{Judged}
+use Rattle.text.specs.Tests.{and-l, and-r}
 use Rattle.entry.specs.declared.Judged.the-variants.{Refuse, Skip, Write}
 use Rattle.dwarf.specs.declared.RegisterRule.{RegisterRule}
-use Rattle.dwarf.specs.Dwarf.{word, ruleAt, rulesFrom, cfaAt, Row, ruleCount, nextRow, rowAt, rowsFrom, rowCount, rows, wide, firstStart, lastEnd, anyBelow, registers, member, distinct, ruleFits, rulesFit, cfaFits, rowFits, rowsFit, rulesOf, headFits, dwarfLayout, dwarfSkipped, dwarfReach, dwarfJudged, Seen, never, seen, remember, seenAfter, nothingSeen}
+use Rattle.dwarf.specs.Dwarf.{word, ruleAt, rulesFrom, ruleCount, nextRow, rowAt, rowsFrom, rowCount, rows, wide, firstStart, registers, member, distinct, ruleFits, rulesFit, cfaFits, rowFits, rowsFit, rulesOf, headFits, dwarfLayout, dwarfSkipped, dwarfReach, dwarfJudged, Seen, seen, remember, seenAfter, nothingSeen}
 use Rattle.dwarf.specs.Cache.{newly, fresh}
 
 -- ---- steps

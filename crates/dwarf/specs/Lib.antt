@@ -1,3 +1,5 @@
 pub mod Dwarf
 pub mod Cache
 pub mod Index
+pub mod Sense
+pub mod Worked

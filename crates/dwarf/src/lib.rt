@@ -22,16 +22,16 @@ use lines::put_rule;
 use names::cfi_register_name;
 use text::put_byte;
 ghost use mathlib.Core.Path.{_≡_};
-ghost use mathlib.Core.Bool.{cond, not, true, false, _&&_, _||_};
-ghost use mathlib.Core.List.{[], _∷_, _++_};
-ghost use Prim.Native.Nat.{ℕ, _+_, _-_, _*_, _^_, _<_, _≤_};
+ghost use mathlib.Core.Bool.{cond, true, false, _&&_, _||_};
+ghost use mathlib.Core.List.{[], _++_};
+ghost use Prim.Native.Nat.{_+_, _-_, _*_, _^_, _<_, _≤_};
 ghost use lib.ListN.{getD};
 ghost use lib.Dec.{T, eqb, leb, ltb};
-ghost use Rattle.text.specs.Text.{Put, ascii};
+ghost use Rattle.text.specs.Text.{Put};
 ghost use Rattle.names.specs.Names.{cfiName};
 ghost use Rattle.entry.specs.Entry.{Processed};
 ghost use Rattle.lines.specs.Lines.{initText, laterText, rulesText, lineText, render};
-ghost use Rattle.dwarf.specs.Dwarf.{wide, twos, usedValue, ruleAt, rulesFrom, cfaAt, rowsFrom, rows, firstStart, lastEnd, fdeOf, registers, member, once, ruleFits, rulesFit, cfaFits, rowFits, rowsFit, headFits, dwarfLayout, dwarfSkipped, anyBelow, dwarfReach, dwarfJudged, nameForm, ruleForms, ruleRules, cfaRules, raRules, defaultRules, lineOf, ranRow, differs, cfaDiffers, remembered, seenAfter, ranRules, ranMoved, dwarfText, dwarfEntry, never, noCfa, nothingSeen, ranRows, ranOf, rulesOf, rowAt, distinct};
+ghost use Rattle.dwarf.specs.Dwarf.{wide, twos, usedValue, ruleAt, rulesFrom, cfaAt, rows, firstStart, lastEnd, fdeOf, registers, member, once, ruleFits, rulesFit, rowFits, rowsFit, headFits, dwarfLayout, dwarfSkipped, anyBelow, dwarfReach, dwarfJudged, nameForm, ruleForms, ruleRules, cfaRules, raRules, defaultRules, lineOf, ranRow, differs, cfaDiffers, remembered, ranRules, dwarfText, dwarfEntry, noCfa, nothingSeen, ranRows, ranOf, rulesOf, rowAt, distinct};
 ghost use Rattle.dwarf.specs.Cache.{lookup, placeOf, cfaOf, newly, fresh, formed, formatted, any, Scanned, After, Known};
 
 // The rules last seen live in arrays of this many registers.

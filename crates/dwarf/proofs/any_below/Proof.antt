@@ -1,3 +1,4 @@
+-- `any_below`: the rows left hold such a row where all do.
 use mathlib.Core.Path.{_≡_, refl, sym, _∙_}
 use mathlib.Core.Bool.{not, _&&_}
 use lib.Dec.{eqb, ltb}
@@ -8,11 +9,6 @@ use borrow.Author.Needs.{needs}
 use native.Mathlib.Omega.{arith}
 use Rattle.dwarf.proofs.any_below.Statement.{statement}
 use Rattle.dwarf.proofs.any_below.Tie as tie
-use Rattle.dwarf.proofs.any_below.Reads as reads
-use Rattle.dwarf.proofs.any_below.Lts as lts
-use Rattle.dwarf.proofs.both.Reads as both-reads
-use Rattle.dwarf.proofs.word.Reads as word-reads
-use Rattle.dwarf.proofs.word64.Reads as word64-reads
 
 abbrev Inv-loop : tie.InvT-loop
 Inv-loop body first load a₀ m₀ a m = Rest body a m × (anyBelow first load (rowsFrom body m a) ≡ anyBelow first load (rows body))
@@ -20,68 +16,52 @@ Inv-loop body first load a₀ m₀ a m = Rest body a m × (anyBelow first load (
 abbrev μ-loop : tie.MeasureT-loop
 μ-loop body first load a₀ m₀ a m = m
 
--- src/lib.rt:664:17
 word-requires : tie.Need-word-requires Inv-loop μ-loop
 word-requires c κs = search needs
 
--- src/lib.rt:664:17
 cast-m : tie.Need-cast-m Inv-loop μ-loop
 cast-m c = search needs
 
--- src/lib.rt:665:5
 loop-holds : tie.Need-loop-holds Inv-loop μ-loop
 unfolding rows
 loop-holds c = rw (c .word .ensures) (rest-all (c .before .before .pre), refl)
 
--- src/lib.rt:666:13
 word64-requires : tie.Need-word64-requires Inv-loop μ-loop
 word64-requires c κs = search needs
 
--- src/lib.rt:667:12
 both-requires : tie.Need-both-requires Inv-loop μ-loop
 both-requires c κs = search needs
 
--- src/lib.rt:668:13
 returns : tie.Need-returns Inv-loop μ-loop
 returns c = or-yes (not (eqb (wide (c .before .before .before .before .before .before .before .args .body .now) (c .before .before .before .before .loop .a)) (c .before .before .before .before .before .before .before .args .first)) && ltb (wide (c .before .before .before .before .before .before .before .args .body .now) (c .before .before .before .before .loop .a)) (c .before .before .before .before .before .before .before .args .load)) _ (rw (← c .before .before .word64 .ensures, ← c .before .both .ensures) (c .if1 .taken)) ∙ sym (below-turn (c .before .before .before .before .before .before .before .args .body .now) (c .before .before .before .before .before .before .before .args .first) (c .before .before .before .before .before .before .before .args .load) (c .before .before .before .before .loop .a) (c .before .before .before .before .loop .m) (search needs)) ∙ c .before .before .before .before .loop .inv .1
 
--- src/lib.rt:670:13
 add-a : tie.Need-add-a Inv-loop μ-loop
 add-a c = search needs
 
--- src/lib.rt:670:36
 add-word : tie.Need-add-word Inv-loop μ-loop
 add-word c = search needs
 
--- src/lib.rt:670:25
 word-requires-2 : tie.Need-word-requires-2 Inv-loop μ-loop
 word-requires-2 c κs = search needs
 
--- src/lib.rt:670:25
 cast-a : tie.Need-cast-a Inv-loop μ-loop
 cast-a c = search needs
 
--- src/lib.rt:670:21
 mul-a : tie.Need-mul-a Inv-loop μ-loop
 mul-a c = record { fits = omega (arith, rest-few (c .before .before .before .before .before .loop .inv .0) (search needs), c .word2 .ensures) }
 
--- src/lib.rt:670:13
 add-a-2 : tie.Need-add-a-2 Inv-loop μ-loop
 add-a-2 c = record { fits = omega (arith, rest-few (c .before .before .before .before .before .loop .inv .0) (search needs), c .before .before .before .before .before .loop .inv .0 .bound, c .word2 .ensures) }
 
--- src/lib.rt:671:9
 sub-m : tie.Need-sub-m Inv-loop μ-loop
 sub-m c = search needs
 
--- src/lib.rt:665:5
 loop-less : tie.Need-loop-less Inv-loop μ-loop
 loop-less c = search needs
 
--- src/lib.rt:665:5
 loop-again : tie.Need-loop-again Inv-loop μ-loop
 loop-again c = rw (c .word2 .ensures) (rest-turn (c .before .before .before .before .before .loop .inv .0) (search needs), or-no (not (eqb (wide (c .before .before .before .before .before .before .before .before .args .body .now) (c .before .before .before .before .before .loop .a)) (c .before .before .before .before .before .before .before .before .args .first)) && ltb (wide (c .before .before .before .before .before .before .before .before .args .body .now) (c .before .before .before .before .before .loop .a)) (c .before .before .before .before .before .before .before .before .args .load)) _ (rw (← c .before .before .before .word64 .ensures, ← c .before .before .both .ensures) (c .before .if1 .left)) ∙ sym (below-turn (c .before .before .before .before .before .before .before .before .args .body .now) (c .before .before .before .before .before .before .before .before .args .first) (c .before .before .before .before .before .before .before .before .args .load) (c .before .before .before .before .before .loop .a) (c .before .before .before .before .before .loop .m) (search needs)) ∙ c .before .before .before .before .before .loop .inv .1)
 
--- src/lib.rt:659:1
 returns-2 : tie.Need-returns-2 Inv-loop μ-loop
 unfolding rowsFrom anyBelow
 returns-2 c = let e : c .before .loop .m ≡ 0 = omega arith in rw e at (c .before .loop .inv .1)

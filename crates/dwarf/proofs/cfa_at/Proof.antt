@@ -1,46 +1,34 @@
-use mathlib.Core.Path.{_≡_, sym, _∙_}
+-- `cfa_at`: each field is what its reader ensures, by the kind.
+use mathlib.Core.Path.{sym, _∙_}
 use Prim.Native.Nat.{_+_}
 use borrow.Author.Tests.{eq-eqb, ne-eqb}
 use Rattle.dwarf.specs.Dwarf.{cfaAt, word}
-use native.Mathlib.Omega.{arith}
 use borrow.Author.Needs.{needs}
 use Rattle.dwarf.proofs.cfa_at.Statement.{statement}
 use Rattle.dwarf.proofs.cfa_at.Tie as tie
-use Rattle.dwarf.proofs.cfa_at.Reads as reads
-use Rattle.dwarf.proofs.cfa_at.Lts as lts
-use Rattle.dwarf.proofs.word.Reads as word-reads
-use Rattle.dwarf.proofs.word64.Reads as word64-reads
 
--- src/lib.rt:131:27
 add-word : tie.Need-add-word
 add-word c = search needs
 
--- src/lib.rt:131:9
 word-requires : tie.Need-word-requires
 word-requires c κs = search needs
 
--- src/lib.rt:133:35
 add-word-2 : tie.Need-add-word-2
 add-word-2 c = search needs
 
--- src/lib.rt:133:13
 word-requires-2 : tie.Need-word-requires-2
 word-requires-2 c κs = search needs
 
--- src/lib.rt:134:35
 add-word64 : tie.Need-add-word64
 add-word64 c = search needs
 
--- src/lib.rt:134:13
 word64-requires : tie.Need-word64-requires
 word64-requires c κs = search needs
 
--- src/lib.rt:135:9
 returns : tie.Need-returns
 unfolding cfaAt
 returns c = rw (eq-eqb (word (c .before .before .before .before .before .args .body .now) (c .before .before .before .before .before .args .a + 4)) 0 (sym (c .before .before .before .word .ensures) ∙ c .before .before .if1 .taken), c .before .before .before .word .ensures, c .before .word2 .ensures, c .word64 .ensures)
 
--- src/lib.rt:127:1
 returns-2 : tie.Need-returns-2
 unfolding cfaAt
 returns-2 c = rw (ne-eqb (word (c .before .before .before .args .body .now) (c .before .before .before .args .a + 4)) 0 (λ e. c .if1 .left (c .before .word .ensures ∙ e)), c .before .word .ensures)

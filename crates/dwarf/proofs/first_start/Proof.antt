@@ -1,29 +1,20 @@
-use mathlib.Core.Path.{_≡_, refl, sym, ap, _∙_}
-use Prim.Native.Nat.{_<_}
-use Rattle.dwarf.specs.Dwarf.{rows, rowsFrom, rowCount, firstStart}
+-- `first_start`: the first row stands at word 7, if there is one.
+use mathlib.Core.Path.{sym, _∙_}
 use Rattle.dwarf.specs.Index.{first-none, first-some}
 use native.Mathlib.Omega.{arith}
 use borrow.Author.Needs.{needs}
 use Rattle.dwarf.proofs.first_start.Statement.{statement}
 use Rattle.dwarf.proofs.first_start.Tie as tie
-use Rattle.dwarf.proofs.first_start.Reads as reads
-use Rattle.dwarf.proofs.first_start.Lts as lts
-use Rattle.dwarf.proofs.word.Reads as word-reads
-use Rattle.dwarf.proofs.word64.Reads as word64-reads
 
--- src/lib.rt:679:8
 word-requires : tie.Need-word-requires
 word-requires c κs = search needs
 
--- src/lib.rt:680:9
 returns : tie.Need-returns
 returns c = first-none (c .before .before .before .args .body .now) (sym (c .before .word .ensures) ∙ c .if1 .taken)
 
--- src/lib.rt:682:5
 word64-requires : tie.Need-word64-requires
 word64-requires c κs = search needs
 
--- src/lib.rt:676:1
 returns-2 : tie.Need-returns-2
 returns-2 c = c .word64 .ensures ∙ first-some (c .before .before .before .before .args .body .now) (omega (arith, c .before .before .word .ensures, c .before .if1 .left))
 

@@ -1,4 +1,5 @@
-use mathlib.Core.Path.{_≡_, refl, ap, _∙_}
+-- `format_cfa`: written for kind 0 with a name.
+use mathlib.Core.Path.{ap, _∙_}
 use mathlib.Core.Bool.{cond, _&&_}
 use mathlib.Core.List.{[], _∷_}
 use lib.IntN.{ℤ}
@@ -12,29 +13,19 @@ use Rattle.lines.specs.Rules.{ruleOf, ruleName, regName, formOf}
 use Rattle.dwarf.specs.Dwarf.{cfaRules, twos}
 use Rattle.dwarf.specs.Cache.{formatted}
 use Rattle.dwarf.proofs.Forms.{cfa-named}
-use native.Mathlib.Omega.{arith}
 use borrow.Author.Needs.{needs}
 use Rattle.dwarf.proofs.format_cfa.Statement.{statement}
 use Rattle.dwarf.proofs.format_cfa.Tie as tie
-use Rattle.dwarf.proofs.format_cfa.Reads as reads
-use Rattle.dwarf.proofs.format_cfa.Lts as lts
-use Rattle.dwarf.proofs.both.Reads as both-reads
-use Rattle.dwarf.proofs.has_name.Reads as has-name-reads
-use Rattle.dwarf.proofs.signed_of.Reads as signed-of-reads
 
--- src/lib.rt:381:9
 has-name-requires : tie.Need-has-name-requires
 has-name-requires c κs = search needs
 
--- src/lib.rt:382:9
 both-requires : tie.Need-both-requires
 both-requires c κs = search needs
 
--- src/lib.rt:384:40
 signed-of-requires : tie.Need-signed-of-requires
 signed-of-requires c κs = search needs
 
--- src/lib.rt:378:1
 returns : tie.Need-returns
 unfolding cfaRules formatted ruleOf ruleName regName formOf
 returns c =

@@ -1,6 +1,4 @@
-use mathlib.Core.Path.{_≡_, refl, ap, _∙_}
-use mathlib.Core.Bool.{cond, _&&_}
-use mathlib.Core.List.{[], _∷_}
+-- `format_rule`: the form under .ra or under the table name.
 use borrow.Author.Tests.{eq-eqb, ne-eqb}
 use Rattle.names.specs.Names.{cfiName}
 use Rattle.lines.specs.Lines.{rule}
@@ -8,34 +6,23 @@ use Rattle.lines.specs.Rules.{ruleOf, ruleName, regName, formOf}
 use Rattle.dwarf.specs.Dwarf.{ruleRules, ruleForms}
 use Rattle.dwarf.specs.Cache.{formed, formatted}
 use Rattle.dwarf.proofs.Forms.{named-ra, named-of}
-use native.Mathlib.Omega.{arith}
 use borrow.Author.Needs.{needs}
 use Rattle.dwarf.proofs.format_rule.Statement.{statement}
 use Rattle.dwarf.proofs.format_rule.Tie as tie
-use Rattle.dwarf.proofs.format_rule.Reads as reads
-use Rattle.dwarf.proofs.format_rule.Lts as lts
-use Rattle.dwarf.proofs.both.Reads as both-reads
-use Rattle.dwarf.proofs.has_name.Reads as has-name-reads
-use Rattle.dwarf.proofs.rule_form.Reads as rule-form-reads
 
--- src/lib.rt:361:9
 rule-form-requires : tie.Need-rule-form-requires
 rule-form-requires c κs = search needs
 
--- src/lib.rt:366:9
 returns : tie.Need-returns
 unfolding ruleRules formatted ruleOf ruleName formed
 returns c = rw (eq-eqb (c .before .before .before .args .rule .register) (c .before .before .before .args .ra) (c .if1 .taken)) (named-ra (c .before .before .rule-form .result .some) (formOf (c .before .before .rule-form .result .form)) (ruleForms (c .before .before .before .args .family) (c .before .before .before .args .rule)) (c .before .before .rule-form .ensures))
 
--- src/lib.rt:372:29
 has-name-requires : tie.Need-has-name-requires
 has-name-requires c κs = search needs
 
--- src/lib.rt:372:9
 both-requires : tie.Need-both-requires
 both-requires c κs = search needs
 
--- src/lib.rt:358:1
 returns-2 : tie.Need-returns-2
 unfolding ruleRules formatted ruleOf ruleName regName formed
 returns-2 c = rw (ne-eqb (c .before .before .before .before .before .args .rule .register) (c .before .before .before .before .before .args .ra) (c .before .before .if1 .left), c .both .ensures) (named-of (c .before .before .before .before .rule-form .result .some) (c .before .has-name .result) (cfiName (c .before .before .before .before .before .args .family) (c .before .before .before .before .before .args .rule .register)) (formOf (c .before .before .before .before .rule-form .result .form)) (ruleForms (c .before .before .before .before .before .args .family) (c .before .before .before .before .before .args .rule)) (c .before .before .before .before .rule-form .ensures) (c .before .has-name .ensures))

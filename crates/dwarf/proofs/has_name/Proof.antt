@@ -1,22 +1,17 @@
+-- `has_name`: a name is there where its length is not 0.
 use mathlib.Core.Path.{ap, _∙_}
 use Rattle.names.specs.Names.{cfiName}
 use mathlib.Core.Bool.{not}
 use Prim.Native.Nat.{ℕ}
 use lib.Dec.{eqb}
 use Rattle.dwarf.proofs.Forms.{any-length}
-use native.Mathlib.Omega.{arith}
 use borrow.Author.Needs.{needs}
 use Rattle.dwarf.proofs.has_name.Statement.{statement}
 use Rattle.dwarf.proofs.has_name.Tie as tie
-use Rattle.dwarf.proofs.has_name.Reads as reads
-use Rattle.dwarf.proofs.has_name.Lts as lts
-use Rattle.names.proofs.cfi_register_name.Reads as cfi-register-name-reads
 
--- src/lib.rt:304:9
 cfi-register-name-requires : tie.Need-cfi-register-name-requires
 cfi-register-name-requires c κs = search needs
 
--- src/lib.rt:301:1
 returns : tie.Need-returns
 returns c = ap (λ (n : ℕ). not (eqb n 0)) (c .before .cfi-register-name .ensures .size) ∙ any-length (cfiName (c .before .before .args .family) (c .before .before .args .register))
 

@@ -1,36 +1,28 @@
+-- `head_fits`: each return is a test of the definition.
 use borrow.Author.Tests.{lt-ltb, le-ltb, le-leb, lt-leb}
 use Rattle.dwarf.specs.Dwarf.{headFits, word}
 use native.Mathlib.Omega.{arith}
 use borrow.Author.Needs.{needs}
 use Rattle.dwarf.proofs.head_fits.Statement.{statement}
 use Rattle.dwarf.proofs.head_fits.Tie as tie
-use Rattle.dwarf.proofs.head_fits.Reads as reads
-use Rattle.dwarf.proofs.head_fits.Lts as lts
-use Rattle.dwarf.proofs.word.Reads as word-reads
 
--- src/lib.rt:874:13
 word-requires : tie.Need-word-requires
 word-requires c κs = search needs
 
--- src/lib.rt:875:9
 returns : tie.Need-returns
 unfolding headFits
 returns c = rw (lt-leb (word (c .before .before .before .args .body .now) 0) 10 (omega (arith, c .before .word .ensures)))
 
--- src/lib.rt:877:21
 word-requires-2 : tie.Need-word-requires-2
 word-requires-2 c κs = search needs
 
--- src/lib.rt:878:9
 returns-2 : tie.Need-returns-2
 unfolding headFits
 returns-2 c = rw (le-leb (word (c .before .before .before .before .before .args .body .now) 0) 10 (omega (arith, c .before .before .before .word .ensures)), le-ltb (word (c .before .before .before .before .before .args .body .now) 5) 65536 (omega (arith, c .before .word2 .ensures)))
 
--- src/lib.rt:880:5
 word-requires-3 : tie.Need-word-requires-3
 word-requires-3 c κs = search needs
 
--- src/lib.rt:871:1
 returns-3 : tie.Need-returns-3
 unfolding headFits
 returns-3 c = rw (le-leb (word (c .before .before .before .before .before .before .args .body .now) 0) 10 (omega (arith, c .before .before .before .before .word .ensures)), lt-ltb (word (c .before .before .before .before .before .before .args .body .now) 5) 65536 (omega (arith, c .before .before .word2 .ensures)), c .word3 .ensures)

@@ -1,48 +1,36 @@
+-- `judge`: each return is a test of the definition.
 use mathlib.Core.Path.{_≡_, sym, ap, _∙_}
-use mathlib.Core.Bool.{true, false}
+use mathlib.Core.Bool.{true}
 use borrow.Author.Tests.{eq-eqb, ne-eqb, not-true, not-false}
-use Rattle.dwarf.specs.Dwarf.{dwarfLayout, dwarfSkipped, dwarfReach, dwarfJudged}
+use Rattle.dwarf.specs.Dwarf.{dwarfLayout, dwarfReach, dwarfJudged}
 use Rattle.entry.specs.declared.Judged.the-variants.{Refuse}
-use native.Mathlib.Omega.{arith}
 use borrow.Author.Needs.{needs}
 use Rattle.dwarf.proofs.judge.Statement.{statement}
 use Rattle.dwarf.proofs.judge.Tie as tie
-use Rattle.dwarf.proofs.judge.Reads as reads
-use Rattle.dwarf.proofs.judge.Lts as lts
-use Rattle.dwarf.proofs.layout.Reads as layout-reads
-use Rattle.dwarf.proofs.reach.Reads as reach-reads
-use Rattle.dwarf.proofs.skipped.Reads as skipped-reads
 
--- src/lib.rt:929:9
 layout-requires : tie.Need-layout-requires
 layout-requires c κs = search needs
 
--- src/lib.rt:930:9
 returns : tie.Need-returns
 unfolding dwarfJudged
 returns c = rw (sym (c .before .layout .ensures) ∙ not-true (c .before .layout .result) (c .if1 .taken))
 
--- src/lib.rt:932:8
 skipped-requires : tie.Need-skipped-requires
 skipped-requires c κs = search needs
 
--- src/lib.rt:933:9
 returns-2 : tie.Need-returns-2
 unfolding dwarfJudged
 returns-2 c = rw (sym (c .before .before .before .layout .ensures) ∙ not-false (c .before .before .before .layout .result) (c .before .before .if1 .left), sym (c .before .skipped .ensures) ∙ c .if2 .taken)
 
--- src/lib.rt:935:9
 reach-requires : tie.Need-reach-requires
 reach-requires c κs =
     let l : dwarfLayout (c .before .before .before .before .before .args .body .now) ≡ true = sym (c .before .before .before .layout .ensures) ∙ not-false (c .before .before .before .layout .result) (c .before .before .if1 .left) in
     rw l tt
 
--- src/lib.rt:937:9
 returns-3 : tie.Need-returns-3
 unfolding dwarfJudged
 returns-3 c = rw (sym (c .before .before .before .before .before .layout .ensures) ∙ not-false (c .before .before .before .before .before .layout .result) (c .before .before .before .before .if1 .left), sym (c .before .before .before .skipped .ensures) ∙ c .before .before .if2 .left, ne-eqb (dwarfReach (c .before .before .before .before .before .before .before .args .body .now)) 0 (λ e. c .if3 .taken (c .before .reach .ensures ∙ e))) (ap Refuse (c .before .reach .ensures))
 
--- src/lib.rt:926:1
 returns-4 : tie.Need-returns-4
 unfolding dwarfJudged
 returns-4 c = rw (sym (c .before .before .before .before .before .layout .ensures) ∙ not-false (c .before .before .before .before .before .layout .result) (c .before .before .before .before .if1 .left), sym (c .before .before .before .skipped .ensures) ∙ c .before .before .if2 .left, eq-eqb (dwarfReach (c .before .before .before .before .before .before .before .args .body .now)) 0 (sym (c .before .reach .ensures) ∙ c .if3 .left))

@@ -1,3 +1,4 @@
+-- `last_end`: the last end of the rows left is the last end of all.
 use mathlib.Core.Path.{_≡_, refl, sym, _∙_}
 use Rattle.dwarf.specs.Dwarf.{rowsFrom, rows, lastEnd}
 use Rattle.dwarf.proofs.Loops.{Rest, rest-all, rest-few, rest-turn, last-turn}
@@ -5,10 +6,6 @@ use borrow.Author.Needs.{needs}
 use native.Mathlib.Omega.{arith}
 use Rattle.dwarf.proofs.last_end.Statement.{statement}
 use Rattle.dwarf.proofs.last_end.Tie as tie
-use Rattle.dwarf.proofs.last_end.Reads as reads
-use Rattle.dwarf.proofs.last_end.Lts as lts
-use Rattle.dwarf.proofs.word.Reads as word-reads
-use Rattle.dwarf.proofs.word64.Reads as word64-reads
 
 abbrev Inv-loop : tie.InvT-loop
 Inv-loop body end₀ a₀ m₀ end a m = Rest body a m × (lastEnd end (rowsFrom body m a) ≡ lastEnd 0 (rows body))
@@ -16,64 +13,49 @@ Inv-loop body end₀ a₀ m₀ end a m = Rest body a m × (lastEnd end (rowsFrom
 abbrev μ-loop : tie.MeasureT-loop
 μ-loop body end₀ a₀ m₀ end a m = m
 
--- src/lib.rt:649:17
 word-requires : tie.Need-word-requires Inv-loop μ-loop
 word-requires c κs = search needs
 
--- src/lib.rt:649:17
 cast-m : tie.Need-cast-m Inv-loop μ-loop
 cast-m c = search needs
 
--- src/lib.rt:650:5
 loop-holds : tie.Need-loop-holds Inv-loop μ-loop
 unfolding rows
 loop-holds c = rw (c .word .ensures) (rest-all (c .before .before .pre), refl)
 
--- src/lib.rt:651:28
 add-word64 : tie.Need-add-word64 Inv-loop μ-loop
 add-word64 c = search needs
 
--- src/lib.rt:651:9
 word64-requires : tie.Need-word64-requires Inv-loop μ-loop
 word64-requires c κs = search needs
 
--- src/lib.rt:652:13
 add-a : tie.Need-add-a Inv-loop μ-loop
 add-a c = search needs
 
--- src/lib.rt:652:36
 add-word : tie.Need-add-word Inv-loop μ-loop
 add-word c = search needs
 
--- src/lib.rt:652:25
 word-requires-2 : tie.Need-word-requires-2 Inv-loop μ-loop
 word-requires-2 c κs = search needs
 
--- src/lib.rt:652:25
 cast-a : tie.Need-cast-a Inv-loop μ-loop
 cast-a c = search needs
 
--- src/lib.rt:652:21
 mul-a : tie.Need-mul-a Inv-loop μ-loop
 mul-a c = record { fits = omega (arith, rest-few (c .before .before .before .loop .inv .0) (search needs), c .word2 .ensures) }
 
--- src/lib.rt:652:13
 add-a-2 : tie.Need-add-a-2 Inv-loop μ-loop
 add-a-2 c = record { fits = omega (arith, rest-few (c .before .before .before .loop .inv .0) (search needs), c .before .before .before .loop .inv .0 .bound, c .word2 .ensures) }
 
--- src/lib.rt:653:9
 sub-m : tie.Need-sub-m Inv-loop μ-loop
 sub-m c = search needs
 
--- src/lib.rt:650:5
 loop-less : tie.Need-loop-less Inv-loop μ-loop
 loop-less c = search needs
 
--- src/lib.rt:650:5
 loop-again : tie.Need-loop-again Inv-loop μ-loop
 loop-again c = rw (c .word2 .ensures, c .before .word64 .ensures) (rest-turn (c .before .before .before .loop .inv .0) (search needs), sym (last-turn (c .before .before .before .before .before .before .args .body .now) (c .before .before .before .loop .end) (c .before .before .before .loop .a) (c .before .before .before .loop .m) (search needs)) ∙ c .before .before .before .loop .inv .1)
 
--- src/lib.rt:643:1
 returns : tie.Need-returns Inv-loop μ-loop
 unfolding rowsFrom lastEnd
 returns c = let e : c .before .loop .m ≡ 0 = omega arith in rw e at (c .before .loop .inv .1)

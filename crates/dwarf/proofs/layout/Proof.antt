@@ -1,46 +1,35 @@
+-- `layout`: each return is a test of the definition.
 use mathlib.Core.Path.{_≡_, sym, _∙_}
 use mathlib.Core.Bool.{true}
 use borrow.Author.Tests.{not-true, not-false}
 use Rattle.dwarf.specs.Dwarf.{headFits, rowsFit, rowCount, dwarfLayout}
 use Rattle.dwarf.specs.Index.{head-few}
-use native.Mathlib.Omega.{arith}
 use borrow.Author.Needs.{needs}
 use Rattle.dwarf.proofs.layout.Statement.{statement}
 use Rattle.dwarf.proofs.layout.Tie as tie
-use Rattle.dwarf.proofs.layout.Reads as reads
-use Rattle.dwarf.proofs.layout.Lts as lts
-use Rattle.dwarf.proofs.head_fits.Reads as head-fits-reads
-use Rattle.dwarf.proofs.registers_fit.Reads as registers-fit-reads
-use Rattle.dwarf.proofs.rows_fit.Reads as rows-fit-reads
 
--- src/lib.rt:887:9
 head-fits-requires : tie.Need-head-fits-requires
 head-fits-requires c κs = search needs
 
--- src/lib.rt:888:9
 returns : tie.Need-returns
 unfolding dwarfLayout
 returns c = rw (sym (c .before .head-fits .ensures) ∙ not-true (c .before .head-fits .result) (c .if1 .taken))
 
--- src/lib.rt:890:9
 rows-fit-requires : tie.Need-rows-fit-requires
 rows-fit-requires c κs =
     let t : headFits (c .before .before .before .args .body .now) ≡ true = sym (c .before .head-fits .ensures) ∙ not-false (c .before .head-fits .result) (c .if1 .left) in
     head-few (c .before .before .before .args .body .now) (rw t tt)
 
--- src/lib.rt:891:9
 returns-2 : tie.Need-returns-2
 unfolding dwarfLayout
 returns-2 c = rw (sym (c .before .before .before .head-fits .ensures) ∙ not-false (c .before .before .before .head-fits .result) (c .before .before .if1 .left), sym (c .before .rows-fit .ensures) ∙ not-true (c .before .rows-fit .result) (c .if2 .taken))
 
--- src/lib.rt:893:5
 registers-fit-requires : tie.Need-registers-fit-requires
 registers-fit-requires c κs =
     let t : headFits (c .before .before .before .before .before .args .body .now) ≡ true = sym (c .before .before .before .head-fits .ensures) ∙ not-false (c .before .before .before .head-fits .result) (c .before .before .if1 .left) in
     let u : rowsFit (c .before .before .before .before .before .args .body .now) (rowCount (c .before .before .before .before .before .args .body .now)) 7 ≡ true = sym (c .before .rows-fit .ensures) ∙ not-false (c .before .rows-fit .result) (c .if2 .left) in
     (head-few (c .before .before .before .before .before .args .body .now) (rw t tt), rw u tt)
 
--- src/lib.rt:884:1
 returns-3 : tie.Need-returns-3
 unfolding dwarfLayout
 returns-3 c = rw (sym (c .before .before .before .before .head-fits .ensures) ∙ not-false (c .before .before .before .before .head-fits .result) (c .before .before .before .if1 .left), sym (c .before .before .rows-fit .ensures) ∙ not-false (c .before .before .rows-fit .result) (c .before .if2 .left)) (c .registers-fit .ensures)

@@ -1,3 +1,4 @@
+-- `named_once`: the rules left name none twice where all do.
 use mathlib.Core.Path.{_≡_, refl, sym, ap, _∙_}
 use mathlib.Core.Bool.{not}
 use Prim.Native.Nat.{_+_, _-_, _*_, _≤_}
@@ -8,10 +9,6 @@ use borrow.Author.Needs.{needs}
 use native.Mathlib.Omega.{arith}
 use Rattle.dwarf.proofs.named_once.Statement.{statement}
 use Rattle.dwarf.proofs.named_once.Tie as tie
-use Rattle.dwarf.proofs.named_once.Reads as reads
-use Rattle.dwarf.proofs.named_once.Lts as lts
-use Rattle.dwarf.proofs.names_register.Reads as names-register-reads
-use Rattle.dwarf.proofs.word.Reads as word-reads
 
 abbrev Inv-loop : tie.InvT-loop
 Inv-loop body from n a₀ k₀ a k = (a + 4 * k ≡ from + 4 * n) × (k ≤ n) × (once (registers (rulesFrom body k a)) ≡ once (registers (rulesFrom body n from)))
@@ -19,39 +16,30 @@ Inv-loop body from n a₀ k₀ a k = (a + 4 * k ≡ from + 4 * n) × (k ≤ n) �
 abbrev μ-loop : tie.MeasureT-loop
 μ-loop body from n a₀ k₀ a k = k
 
--- src/lib.rt:765:5
 loop-holds : tie.Need-loop-holds Inv-loop μ-loop
 loop-holds c = (refl, omega arith, refl)
 
--- src/lib.rt:766:13
 word-requires : tie.Need-word-requires Inv-loop μ-loop
 word-requires c κs = search needs
 
--- src/lib.rt:767:9
 add-a : tie.Need-add-a Inv-loop μ-loop
 add-a c = search needs
 
--- src/lib.rt:768:9
 sub-k : tie.Need-sub-k Inv-loop μ-loop
 sub-k c = search needs
 
--- src/lib.rt:769:12
 names-register-requires : tie.Need-names-register-requires Inv-loop μ-loop
 names-register-requires c κs = (omega (arith, c .before .before .loop .inv .0), omega (arith, c .before .before .loop .inv .1))
 
--- src/lib.rt:770:13
 returns : tie.Need-returns Inv-loop μ-loop
 returns c = and-no (not (member (word (c .before .before .before .before .before .before .args .body .now) (c .before .before .before .before .loop .a)) (registers (rulesFrom (c .before .before .before .before .before .before .args .body .now) (c .before .before .before .before .loop .k - 1) (c .before .before .before .before .loop .a + 4))))) _ (rw (← c .before .before .word .ensures) (ap not (sym (c .before .names-register .ensures) ∙ c .if1 .taken))) ∙ sym (once-turn (c .before .before .before .before .before .before .args .body .now) (c .before .before .before .before .loop .k) (c .before .before .before .before .loop .a) (search needs)) ∙ c .before .before .before .before .loop .inv .2
 
--- src/lib.rt:765:5
 loop-less : tie.Need-loop-less Inv-loop μ-loop
 loop-less c = search needs
 
--- src/lib.rt:765:5
 loop-again : tie.Need-loop-again Inv-loop μ-loop
 loop-again c = (omega arith, omega arith, and-yes (not (member (word (c .before .before .before .before .before .before .args .body .now) (c .before .before .before .before .loop .a)) (registers (rulesFrom (c .before .before .before .before .before .before .args .body .now) (c .before .before .before .before .loop .k - 1) (c .before .before .before .before .loop .a + 4))))) _ (rw (← c .before .before .word .ensures) (ap not (sym (c .before .names-register .ensures) ∙ c .if1 .left))) ∙ sym (once-turn (c .before .before .before .before .before .before .args .body .now) (c .before .before .before .before .loop .k) (c .before .before .before .before .loop .a) (search needs)) ∙ c .before .before .before .before .loop .inv .2)
 
--- src/lib.rt:759:1
 returns-2 : tie.Need-returns-2 Inv-loop μ-loop
 unfolding rulesFrom registers once
 returns-2 c = let e : c .before .loop .k ≡ 0 = omega arith in rw e at (c .before .loop .inv .2)

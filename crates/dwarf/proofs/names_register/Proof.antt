@@ -1,3 +1,4 @@
+-- `names_register`: the rules left name it where all do.
 use mathlib.Core.Path.{_≡_, refl, sym, _∙_}
 use Prim.Native.Nat.{_+_, _*_}
 use borrow.Author.Tests.{eq-eqb, ne-eqb}
@@ -9,9 +10,6 @@ use borrow.Author.Needs.{needs}
 use native.Mathlib.Omega.{arith}
 use Rattle.dwarf.proofs.names_register.Statement.{statement}
 use Rattle.dwarf.proofs.names_register.Tie as tie
-use Rattle.dwarf.proofs.names_register.Reads as reads
-use Rattle.dwarf.proofs.names_register.Lts as lts
-use Rattle.dwarf.proofs.word.Reads as word-reads
 
 abbrev Inv-loop : tie.InvT-loop
 Inv-loop body from n register a₀ k₀ a k = (a + 4 * k ≡ from + 4 * n) × (member register (registers (rulesFrom body k a)) ≡ member register (registers (rulesFrom body n from)))
@@ -19,35 +17,27 @@ Inv-loop body from n register a₀ k₀ a k = (a + 4 * k ≡ from + 4 * n) × (m
 abbrev μ-loop : tie.MeasureT-loop
 μ-loop body from n register a₀ k₀ a k = k
 
--- src/lib.rt:748:5
 loop-holds : tie.Need-loop-holds Inv-loop μ-loop
 loop-holds c = (refl, refl)
 
--- src/lib.rt:749:12
 word-requires : tie.Need-word-requires Inv-loop μ-loop
 word-requires c κs = search needs
 
--- src/lib.rt:750:13
 returns : tie.Need-returns Inv-loop μ-loop
 returns c = or-yes (eqb (word (c .before .before .before .before .before .args .body .now) (c .before .before .before .loop .a)) (c .before .before .before .before .before .args .register)) _ (eq-eqb (word (c .before .before .before .before .before .args .body .now) (c .before .before .before .loop .a)) (c .before .before .before .before .before .args .register) (sym (c .before .word .ensures) ∙ c .if1 .taken)) ∙ sym (member-turn (c .before .before .before .before .before .args .body .now) (c .before .before .before .before .before .args .register) (c .before .before .before .loop .k) (c .before .before .before .loop .a) (search needs)) ∙ c .before .before .before .loop .inv .1
 
--- src/lib.rt:752:9
 add-a : tie.Need-add-a Inv-loop μ-loop
 add-a c = search needs
 
--- src/lib.rt:753:9
 sub-k : tie.Need-sub-k Inv-loop μ-loop
 sub-k c = search needs
 
--- src/lib.rt:748:5
 loop-less : tie.Need-loop-less Inv-loop μ-loop
 loop-less c = search needs
 
--- src/lib.rt:748:5
 loop-again : tie.Need-loop-again Inv-loop μ-loop
 loop-again c = (omega arith, or-no (eqb (word (c .before .before .before .before .before .args .body .now) (c .before .before .before .loop .a)) (c .before .before .before .before .before .args .register)) _ (ne-eqb (word (c .before .before .before .before .before .args .body .now) (c .before .before .before .loop .a)) (c .before .before .before .before .before .args .register) (λ e. c .if1 .left (c .before .word .ensures ∙ e))) ∙ sym (member-turn (c .before .before .before .before .before .args .body .now) (c .before .before .before .before .before .args .register) (c .before .before .before .loop .k) (c .before .before .before .loop .a) (search needs)) ∙ c .before .before .before .loop .inv .1)
 
--- src/lib.rt:742:1
 returns-2 : tie.Need-returns-2 Inv-loop μ-loop
 unfolding rulesFrom registers member
 returns-2 c = let e : c .before .loop .k ≡ 0 = omega arith in rw e at (c .before .loop .inv .1)

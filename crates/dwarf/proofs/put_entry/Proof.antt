@@ -1,32 +1,24 @@
+-- `put_entry`: the rows under what `fde_of` reads.
 use mathlib.Core.Path.{ap}
 use mathlib.Core.Bool.{false}
 use Rattle.text.specs.Text.Laws.{put-as, put-length}
 use Rattle.lines.specs.Lines.{render}
 use Rattle.dwarf.specs.declared.Fde.{Fde}
 use Rattle.dwarf.specs.Dwarf.{rows, ranRows, noCfa, nothingSeen, dwarfText}
-use native.Mathlib.Omega.{arith}
 use borrow.Author.Needs.{needs}
 use Rattle.dwarf.proofs.put_entry.Statement.{statement}
 use Rattle.dwarf.proofs.put_entry.Tie as tie
-use Rattle.dwarf.proofs.put_entry.Reads as reads
-use Rattle.dwarf.proofs.put_entry.Lts as lts
-use Rattle.dwarf.proofs.fde_of.Reads as fde-of-reads
-use Rattle.dwarf.proofs.put_rows.Reads as put-rows-reads
 
--- src/lib.rt:946:9
 fde-of-requires : tie.Need-fde-of-requires
 fde-of-requires c κs = search needs
 
--- src/lib.rt:947:5
 put-rows-requires : tie.Need-put-rows-requires
 put-rows-requires c κs = search needs
 
--- src/lib.rt:942:1
 returns : tie.Need-returns
 unfolding dwarfText
 returns c = put-as (c .before .before .put-rows .ensures) (ap (λ (e : Fde). render false (ranRows e noCfa nothingSeen (rows (c .before .before .before .before .before .before .before .args .body .now)))) (c .before .before .before .before .fde-of .ensures))
 
--- src/lib.rt:942:1
 same-length : tie.Need-same-length
 same-length c = put-length (returns c)
 

@@ -1,25 +1,19 @@
+-- `put_formatted`: a rule that is there is put, another leaves all as it was.
 use Rattle.dwarf.proofs.Forms.{put-formed, put-unformed}
 use native.Mathlib.Omega.{arith}
 use borrow.Author.Needs.{needs}
 use Rattle.dwarf.proofs.put_formatted.Statement.{statement}
 use Rattle.dwarf.proofs.put_formatted.Tie as tie
-use Rattle.dwarf.proofs.put_formatted.Reads as reads
-use Rattle.dwarf.proofs.put_formatted.Lts as lts
-use Rattle.lines.proofs.put_rule.Reads as put-rule-reads
 
--- src/lib.rt:407:9
 put-rule-requires : tie.Need-put-rule-requires
 put-rule-requires c κs = search needs
 
--- src/lib.rt:407:9
 same-length : tie.Need-same-length
 same-length c = search needs
 
--- src/lib.rt:407:9
 returns : tie.Need-returns
 returns c = put-formed (c .before .before .before .before .before .before .before .args .f) (c .before .before .before .before .before .if1 .taken) (c .before .before .put-rule .ensures)
 
--- src/lib.rt:402:1
 returns-2 : tie.Need-returns-2
 returns-2 c = put-unformed (c .before .before .args .f) (c .if1 .left) (omega arith) (omega arith)
 

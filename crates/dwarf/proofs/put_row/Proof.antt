@@ -1,59 +1,41 @@
+-- `put_row`: the first pass tells whether there is a line, and what is seen after it.
 use Rattle.text.specs.Text.Laws.{put-length}
 use Rattle.dwarf.proofs.Rows.{row-done, row-after}
 use native.Mathlib.Omega.{arith}
 use borrow.Author.Needs.{needs}
 use Rattle.dwarf.proofs.put_row.Statement.{statement}
 use Rattle.dwarf.proofs.put_row.Tie as tie
-use Rattle.dwarf.proofs.put_row.Reads as reads
-use Rattle.dwarf.proofs.put_row.Lts as lts
-use Rattle.dwarf.proofs.RowState.cfa_differs.Reads as cfa-differs-reads
-use Rattle.dwarf.proofs.cfa_at.Reads as cfa-at-reads
-use Rattle.dwarf.proofs.cfa_written.Reads as cfa-written-reads
-use Rattle.dwarf.proofs.put_line.Reads as put-line-reads
-use Rattle.dwarf.proofs.scan_rules.Reads as scan-rules-reads
-use Rattle.dwarf.proofs.word.Reads as word-reads
 
--- src/lib.rt:592:24
 add-word : tie.Need-add-word
 add-word c = search needs
 
--- src/lib.rt:592:13
 word-requires : tie.Need-word-requires
 word-requires c κs = search needs
 
--- src/lib.rt:592:13
 cast-n : tie.Need-cast-n
 cast-n c = search needs
 
--- src/lib.rt:593:9
 cfa-at-requires : tie.Need-cfa-at-requires
 cfa-at-requires c κs = search needs
 
--- src/lib.rt:594:48
 cfa-differs-requires : tie.Need-cfa-differs-requires
 cfa-differs-requires c κs = search needs
 
--- src/lib.rt:594:9
 cfa-written-requires : tie.Need-cfa-written-requires
 cfa-written-requires c κs = search needs
 
--- src/lib.rt:595:33
 add-scan-rules : tie.Need-add-scan-rules
 add-scan-rules c = search needs
 
--- src/lib.rt:595:9
 scan-rules-requires : tie.Need-scan-rules-requires
 scan-rules-requires c κs = (omega arith, omega (arith, c .before .before .before .before .before .before .pre .1, c .before .before .before .word .ensures), rw (c .before .before .before .word .ensures) (c .before .before .before .before .before .before .pre .2))
 
--- src/lib.rt:596:9
 put-line-requires : tie.Need-put-line-requires
 put-line-requires c κs = c .before .before .before .before .before .before .before .before .pre
 
--- src/lib.rt:587:1
 returns : tie.Need-returns
 returns c = (row-done (c .before .before .before .before .before .before .before .before .before .before .before .before .args .fde) (c .before .before .before .before .before .before .before .before .before .before .before .before .args .body .now) (c .before .before .before .before .before .before .before .before .before .before .before .before .args .a) (c .before .before .before .before .before .before .before .before .before .before .before .before .args .state) (c .before .before .before .before .before .before .before .before .before .word .result) (c .before .before .before .before .before .before .before .before .cfa-at .result) (c .before .before .before .before .before .before .before .cfa-differs .result) (c .before .before .before .before .before .before .cfa-written .result) (c .before .before .before .before .before .scan-rules .result) (c .before .before .before .before .before .before .before .before .cfa-at .ensures) (c .before .before .before .before .before .before .before .before .before .word .ensures) (c .before .before .before .before .before .before .before .cfa-differs .ensures) (c .before .before .before .before .before .before .cfa-written .ensures) (c .before .before .before .before .before .scan-rules .ensures) (c .before .before .before .put-line .ensures), row-after (c .before .before .before .before .before .before .before .before .before .before .before .before .args .fde) (c .before .before .before .before .before .before .before .before .before .before .before .before .args .body .now) (c .before .before .before .before .before .before .before .before .before .before .before .before .args .a) (c .before .before .before .before .before .before .before .before .before .before .before .before .args .state) (c .before .before .before .before .before .before .before .before .before .word .result) (c .before .before .before .before .before .before .before .before .cfa-at .result) (c .before .before .before .before .before .before .before .cfa-differs .result) (c .before .before .before .before .before .before .cfa-written .result) (c .before .before .before .before .before .scan-rules .result) (c .before .before .before .before .before .before .before .before .cfa-at .ensures) (c .before .before .before .before .before .before .before .before .before .word .ensures) (c .before .before .before .before .before .scan-rules .ensures))
 
--- src/lib.rt:587:1
 same-length : tie.Need-same-length
 same-length c = put-length (returns c .0)
 

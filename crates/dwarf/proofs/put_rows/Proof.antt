@@ -1,14 +1,10 @@
+-- `put_rows`: the loop of `RowsLeft`: the lines of the rows left are what is left to write.
 use Rattle.text.specs.Text.Laws.{put-length}
 use Rattle.dwarf.proofs.Loops.{RowsLeft, lines-all, row-room, lines-turn, lines-done, rest-few}
 use borrow.Author.Needs.{needs}
 use native.Mathlib.Omega.{arith}
 use Rattle.dwarf.proofs.put_rows.Statement.{statement}
 use Rattle.dwarf.proofs.put_rows.Tie as tie
-use Rattle.dwarf.proofs.put_rows.Reads as reads
-use Rattle.dwarf.proofs.put_rows.Lts as lts
-use Rattle.dwarf.proofs.put_row.Reads as put-row-reads
-use Rattle.dwarf.proofs.start_state.Reads as start-state-reads
-use Rattle.dwarf.proofs.word.Reads as word-reads
 
 abbrev Inv-loop : tie.InvT-loop
 Inv-loop out₀ at body fde p₀ state₀ a₀ m₀ out p state a m = RowsLeft body fde out₀ at out p state a m
@@ -16,67 +12,51 @@ Inv-loop out₀ at body fde p₀ state₀ a₀ m₀ out p state a m = RowsLeft b
 abbrev μ-loop : tie.MeasureT-loop
 μ-loop out₀ at body fde p₀ state₀ a₀ m₀ out p state a m = m
 
--- src/lib.rt:629:9
 start-state-requires : tie.Need-start-state-requires Inv-loop μ-loop
 start-state-requires c κs = search needs
 
--- src/lib.rt:631:17
 word-requires : tie.Need-word-requires Inv-loop μ-loop
 word-requires c κs = search needs
 
--- src/lib.rt:631:17
 cast-m : tie.Need-cast-m Inv-loop μ-loop
 cast-m c = search needs
 
--- src/lib.rt:632:5
 loop-holds : tie.Need-loop-holds Inv-loop μ-loop
 loop-holds c = rw (c .word .ensures) (lines-all (c .before .before .before .before .pre) (c .before .start-state .ensures .0) (c .before .start-state .ensures .1) (c .before .start-state .ensures .2) (omega arith) (omega arith))
 
--- src/lib.rt:633:13
 put-row-requires : tie.Need-put-row-requires Inv-loop μ-loop
 put-row-requires c κs = (omega (arith, c .before .before .loop .inv .rest .bound), rest-few (c .before .before .loop .inv .rest) (search needs), row-room (c .before .before .loop .inv) (search needs))
 
--- src/lib.rt:636:13
 add-a : tie.Need-add-a Inv-loop μ-loop
 add-a c = record { fits = omega (arith, c .before .before .before .before .before .before .loop .inv .rest .bound) }
 
--- src/lib.rt:636:36
 add-word : tie.Need-add-word Inv-loop μ-loop
 add-word c = record { fits = omega (arith, c .before .before .before .before .before .before .loop .inv .rest .bound) }
 
--- src/lib.rt:636:25
 word-requires-2 : tie.Need-word-requires-2 Inv-loop μ-loop
 word-requires-2 c κs = search needs
 
--- src/lib.rt:636:25
 cast-a : tie.Need-cast-a Inv-loop μ-loop
 cast-a c = search needs
 
--- src/lib.rt:636:21
 mul-a : tie.Need-mul-a Inv-loop μ-loop
 mul-a c = record { fits = omega (arith, rest-few (c .before .before .before .before .before .before .before .loop .inv .rest) (search needs), c .word2 .ensures) }
 
--- src/lib.rt:636:13
 add-a-2 : tie.Need-add-a-2 Inv-loop μ-loop
 add-a-2 c = record { fits = omega (arith, rest-few (c .before .before .before .before .before .before .before .loop .inv .rest) (search needs), c .before .before .before .before .before .before .before .loop .inv .rest .bound, c .word2 .ensures) }
 
--- src/lib.rt:637:9
 sub-m : tie.Need-sub-m Inv-loop μ-loop
 sub-m c = search needs
 
--- src/lib.rt:632:5
 loop-less : tie.Need-loop-less Inv-loop μ-loop
 loop-less c = search needs
 
--- src/lib.rt:632:5
 loop-again : tie.Need-loop-again Inv-loop μ-loop
 loop-again c = rw (c .word2 .ensures) (lines-turn (c .before .before .before .before .before .before .before .loop .inv) (search needs) (c .before .before .before .before .put-row .ensures .0) (c .before .before .before .before .put-row .ensures .1))
 
--- src/lib.rt:624:1
 returns : tie.Need-returns Inv-loop μ-loop
 returns c = lines-done (c .before .loop .inv) (search needs)
 
--- src/lib.rt:624:1
 same-length : tie.Need-same-length Inv-loop μ-loop
 same-length c = put-length (returns c)
 

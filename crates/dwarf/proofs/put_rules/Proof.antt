@@ -1,4 +1,5 @@
-use mathlib.Core.Path.{_≡_, ap, _∙_}
+-- `put_rules`: the loop of `PutLeft`: what is left to remember is what is left to write.
+use mathlib.Core.Path.{ap}
 use mathlib.Core.Bool.{Bool, cond}
 use mathlib.Core.List.{[]}
 use Rattle.text.specs.Text.Laws.{left-all, put-as, put-length}
@@ -9,11 +10,6 @@ use borrow.Author.Needs.{needs}
 use native.Mathlib.Omega.{arith}
 use Rattle.dwarf.proofs.put_rules.Statement.{statement}
 use Rattle.dwarf.proofs.put_rules.Tie as tie
-use Rattle.dwarf.proofs.put_rules.Reads as reads
-use Rattle.dwarf.proofs.put_rules.Lts as lts
-use Rattle.dwarf.proofs.RuleCache.remember.Reads as remember-reads
-use Rattle.dwarf.proofs.rule_at.Reads as rule-at-reads
-use Rattle.dwarf.proofs.write_register_rule.Reads as write-register-rule-reads
 
 abbrev Inv-loop : tie.InvT-loop
 Inv-loop out₀ at body from n family ra seen₀ p₀ a₀ k₀ out seen p a k = PutLeft body family ra seen₀ from n out₀ at out seen p a k
@@ -21,45 +17,35 @@ Inv-loop out₀ at body from n family ra seen₀ p₀ a₀ k₀ out seen p a k =
 abbrev μ-loop : tie.MeasureT-loop
 μ-loop out₀ at body from n family ra seen₀ p₀ a₀ k₀ out seen p a k = k
 
--- src/lib.rt:521:5
 loop-holds : tie.Need-loop-holds Inv-loop μ-loop
 loop-holds c = record { rules = rules-all (omega (arith, c .before .before .pre .2)); text = left-all (omega arith) (omega arith) }
 
--- src/lib.rt:522:13
 rule-at-requires : tie.Need-rule-at-requires Inv-loop μ-loop
 rule-at-requires c κs = omega (arith, c .before .loop .inv .rules .at)
 
--- src/lib.rt:523:13
 remember-requires : tie.Need-remember-requires Inv-loop μ-loop
 remember-requires c κs = rules-room (c .before .before .loop .inv .rules) (search needs) (c .rule-at .ensures) (c .before .before .before .before .before .pre .2)
 
--- src/lib.rt:524:9
 write-register-rule-requires : tie.Need-write-register-rule-requires Inv-loop μ-loop
 write-register-rule-requires c κs = search needs
 
--- src/lib.rt:526:9
 add-a : tie.Need-add-a Inv-loop μ-loop
 add-a c = record { fits = omega (arith, c .before .before .before .before .before .before .before .before .loop .inv .rules .at) }
 
--- src/lib.rt:527:9
 sub-k : tie.Need-sub-k Inv-loop μ-loop
 sub-k c = search needs
 
--- src/lib.rt:521:5
 loop-less : tie.Need-loop-less Inv-loop μ-loop
 loop-less c = search needs
 
--- src/lib.rt:521:5
 loop-again : tie.Need-loop-again Inv-loop μ-loop
 loop-again c =
     put-turn {c₁ = c .before .before .before .before .before .remember .result .cache} (c .before .before .before .before .before .before .before .before .loop .inv) (search needs) (c .before .before .before .before .before .before .rule-at .ensures) (c .before .before .before .before .before .before .before .before .before .before .before .pre .2) (c .before .before .before .before .before .remember .ensures .0) (c .before .before .before .before .before .remember .ensures .1 .0)
     (put-as (c .before .before .before .write-register-rule .ensures) (ap (λ (t : Bool). rulesText (cond t (ruleRules (c .before .before .before .before .before .before .before .before .before .before .before .args .family) (c .before .before .before .before .before .before .before .before .before .before .before .args .ra) (c .before .before .before .before .before .before .rule-at .result)) [])) (c .before .before .before .before .before .remember .ensures .1 .1)))
 
--- src/lib.rt:504:1
 returns : tie.Need-returns Inv-loop μ-loop
 returns c = put-done (c .before .loop .inv) (search needs)
 
--- src/lib.rt:504:1
 same-length : tie.Need-same-length Inv-loop μ-loop
 same-length c = put-length (returns c)
 

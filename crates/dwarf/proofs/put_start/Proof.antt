@@ -1,40 +1,27 @@
-use mathlib.Core.Path.{sym}
+-- `put_start`: one return for each beginning.
 use borrow.Author.Tests.{eq-eqb, ne-eqb}
-use native.Mathlib.Omega.{arith}
 use borrow.Author.Needs.{needs}
 use Rattle.dwarf.proofs.put_start.Statement.{statement}
 use Rattle.dwarf.proofs.put_start.Tie as tie
-use Rattle.dwarf.proofs.put_start.Reads as reads
-use Rattle.dwarf.proofs.put_start.Lts as lts
-use Rattle.dwarf.proofs.less.Reads as less-reads
-use Rattle.lines.proofs.put_init.Reads as put-init-reads
-use Rattle.lines.proofs.put_later.Reads as put-later-reads
 
--- src/lib.rt:536:9
 less-requires : tie.Need-less-requires
 less-requires c κs = search needs
 
--- src/lib.rt:538:9
 put-init-requires : tie.Need-put-init-requires
 put-init-requires c κs = search needs
 
--- src/lib.rt:538:9
 same-length : tie.Need-same-length
 same-length c = search needs
 
--- src/lib.rt:538:9
 returns : tie.Need-returns
 returns c = rw (eq-eqb (c .before .before .before .before .before .before .before .before .args .start) (c .before .before .before .before .before .before .before .before .args .fde .start) (c .before .before .before .before .if1 .taken), ← c .before .before .before .before .before .before .less .ensures) (c .before .before .put-init .ensures)
 
--- src/lib.rt:540:5
 put-later-requires : tie.Need-put-later-requires
 put-later-requires c κs = search needs
 
--- src/lib.rt:533:1
 same-length-2 : tie.Need-same-length-2
 same-length-2 c = search needs
 
--- src/lib.rt:533:1
 returns-2 : tie.Need-returns-2
 returns-2 c = rw (ne-eqb (c .before .before .before .before .before .before .before .before .args .start) (c .before .before .before .before .before .before .before .before .args .fde .start) (c .before .before .before .before .if1 .left), ← c .before .before .before .before .before .before .less .ensures) (c .before .before .put-later .ensures)
 

@@ -1,13 +1,9 @@
+-- `registers_fit`: the loop of `MetLeft`: registers met and those left to meet are those of the body.
 use Rattle.dwarf.proofs.Loops.{MetLeft, met-all, met-over, met-turn, met-done, rest-few}
 use borrow.Author.Needs.{needs}
 use native.Mathlib.Omega.{arith}
 use Rattle.dwarf.proofs.registers_fit.Statement.{statement}
 use Rattle.dwarf.proofs.registers_fit.Tie as tie
-use Rattle.dwarf.proofs.registers_fit.Reads as reads
-use Rattle.dwarf.proofs.registers_fit.Lts as lts
-use Rattle.dwarf.proofs.RuleCache.start.Reads as start-reads
-use Rattle.dwarf.proofs.meet_rules.Reads as meet-rules-reads
-use Rattle.dwarf.proofs.word.Reads as word-reads
 
 abbrev Inv-loop : tie.InvT-loop
 Inv-loop body rules₀ a₀ m₀ rules a m = MetLeft body rules a m
@@ -15,71 +11,54 @@ Inv-loop body rules₀ a₀ m₀ rules a m = MetLeft body rules a m
 abbrev μ-loop : tie.MeasureT-loop
 μ-loop body rules₀ a₀ m₀ rules a m = m
 
--- src/lib.rt:855:9
 start-requires : tie.Need-start-requires Inv-loop μ-loop
 start-requires c κs = search needs
 
--- src/lib.rt:857:17
 word-requires : tie.Need-word-requires Inv-loop μ-loop
 word-requires c κs = search needs
 
--- src/lib.rt:857:17
 cast-m : tie.Need-cast-m Inv-loop μ-loop
 cast-m c = search needs
 
--- src/lib.rt:858:5
 loop-holds : tie.Need-loop-holds Inv-loop μ-loop
 loop-holds c = rw (c .word .ensures) (met-all (c .before .before .before .pre .0) (c .before .before .before .pre .1) (c .before .start .ensures .0) (c .before .start .ensures .1))
 
--- src/lib.rt:859:28
 add-word : tie.Need-add-word Inv-loop μ-loop
 add-word c = record { fits = omega (arith, c .before .loop .inv .rest .bound) }
 
--- src/lib.rt:859:17
 word-requires-2 : tie.Need-word-requires-2 Inv-loop μ-loop
 word-requires-2 c κs = search needs
 
--- src/lib.rt:859:17
 cast-n : tie.Need-cast-n Inv-loop μ-loop
 cast-n c = search needs
 
--- src/lib.rt:860:36
 add-meet-rules : tie.Need-add-meet-rules Inv-loop μ-loop
 add-meet-rules c = record { fits = omega (arith, c .before .before .loop .inv .rest .bound) }
 
--- src/lib.rt:860:13
 meet-rules-requires : tie.Need-meet-rules-requires Inv-loop μ-loop
 meet-rules-requires c κs = (omega (arith, c .before .before .loop .inv .rest .bound), omega (arith, rest-few (c .before .before .loop .inv .rest) (search needs), c .word2 .ensures), c .before .before .loop .inv .few)
 
--- src/lib.rt:862:13
 returns : tie.Need-returns Inv-loop μ-loop
 returns c = met-over (c .before .before .before .before .loop .inv) (search needs) (rw (c .before .before .word2 .ensures) at (c .before .meet-rules .ensures)) (c .if1 .taken)
 
--- src/lib.rt:865:13
 add-a : tie.Need-add-a Inv-loop μ-loop
 add-a c = record { fits = omega (arith, c .before .before .before .before .before .loop .inv .rest .bound) }
 
--- src/lib.rt:865:21
 mul-a : tie.Need-mul-a Inv-loop μ-loop
 mul-a c = record { fits = omega (arith, rest-few (c .before .before .before .before .before .loop .inv .rest) (search needs), c .before .before .before .word2 .ensures) }
 
--- src/lib.rt:865:13
 add-a-2 : tie.Need-add-a-2 Inv-loop μ-loop
 add-a-2 c = record { fits = omega (arith, rest-few (c .before .before .before .before .before .loop .inv .rest) (search needs), c .before .before .before .before .before .loop .inv .rest .bound, c .before .before .before .word2 .ensures) }
 
--- src/lib.rt:866:9
 sub-m : tie.Need-sub-m Inv-loop μ-loop
 sub-m c = search needs
 
--- src/lib.rt:858:5
 loop-less : tie.Need-loop-less Inv-loop μ-loop
 loop-less c = search needs
 
--- src/lib.rt:858:5
 loop-again : tie.Need-loop-again Inv-loop μ-loop
 loop-again c = rw (c .before .before .before .word2 .ensures) (met-turn (c .before .before .before .before .before .loop .inv) (search needs) (rw (c .before .before .before .word2 .ensures) at (c .before .before .meet-rules .ensures)) (c .before .if1 .left))
 
--- src/lib.rt:851:1
 returns-2 : tie.Need-returns-2 Inv-loop μ-loop
 returns-2 c = met-done (c .before .loop .inv) (search needs)
 

@@ -1,3 +1,4 @@
+-- `rows_fit`: the rows left fit where all do.
 use mathlib.Core.Path.{_≡_, refl, sym, _∙_}
 use mathlib.Core.Bool.{true}
 use Prim.Native.Nat.{_+_, _*_, _≤_}
@@ -8,10 +9,6 @@ use borrow.Author.Needs.{needs}
 use native.Mathlib.Omega.{arith}
 use Rattle.dwarf.proofs.rows_fit.Statement.{statement}
 use Rattle.dwarf.proofs.rows_fit.Tie as tie
-use Rattle.dwarf.proofs.rows_fit.Reads as reads
-use Rattle.dwarf.proofs.rows_fit.Lts as lts
-use Rattle.dwarf.proofs.row_fits.Reads as row-fits-reads
-use Rattle.dwarf.proofs.word.Reads as word-reads
 
 abbrev Inv-loop : tie.InvT-loop
 Inv-loop body a₀ m₀ a m = (a + 265 * m ≤ 271367) × (rowsFit body m a ≡ rowsFit body (rowCount body) 7)
@@ -19,63 +16,49 @@ Inv-loop body a₀ m₀ a m = (a + 265 * m ≤ 271367) × (rowsFit body m a ≡ 
 abbrev μ-loop : tie.MeasureT-loop
 μ-loop body a₀ m₀ a m = m
 
--- src/lib.rt:807:17
 word-requires : tie.Need-word-requires Inv-loop μ-loop
 word-requires c κs = search needs
 
--- src/lib.rt:807:17
 cast-m : tie.Need-cast-m Inv-loop μ-loop
 cast-m c = search needs
 
--- src/lib.rt:808:5
 loop-holds : tie.Need-loop-holds Inv-loop μ-loop
 loop-holds c = rw (c .word .ensures) (omega (arith, c .before .before .pre), refl)
 
--- src/lib.rt:809:13
 row-fits-requires : tie.Need-row-fits-requires Inv-loop μ-loop
 row-fits-requires c κs = search needs
 
--- src/lib.rt:810:13
 returns : tie.Need-returns Inv-loop μ-loop
 returns c = and-no (rowFits (c .before .before .before .before .before .before .args .body .now) (c .before .before .before .loop .a)) _ (sym (c .before .row-fits .ensures) ∙ not-true (c .before .row-fits .result) (c .if1 .taken)) ∙ sym (rows-fit-step (c .before .before .before .before .before .before .args .body .now) (c .before .before .before .loop .m) (c .before .before .before .loop .a) (search needs)) ∙ c .before .before .before .loop .inv .1
 
--- src/lib.rt:812:13
 add-a : tie.Need-add-a Inv-loop μ-loop
 add-a c = search needs
 
--- src/lib.rt:812:36
 add-word : tie.Need-add-word Inv-loop μ-loop
 add-word c = search needs
 
--- src/lib.rt:812:25
 word-requires-2 : tie.Need-word-requires-2 Inv-loop μ-loop
 word-requires-2 c κs = search needs
 
--- src/lib.rt:812:25
 cast-a : tie.Need-cast-a Inv-loop μ-loop
 cast-a c = search needs
 
--- src/lib.rt:812:21
 mul-a : tie.Need-mul-a Inv-loop μ-loop
 mul-a c =
     let t : rowFits (c .before .before .before .before .before .before .before .args .body .now) (c .before .before .before .before .loop .a) ≡ true = sym (c .before .before .row-fits .ensures) ∙ not-false (c .before .before .row-fits .result) (c .before .if1 .left) in
     record { fits = omega (arith, row-few (c .before .before .before .before .before .before .before .args .body .now) (c .before .before .before .before .loop .a) (rw t tt), c .word2 .ensures) }
 
--- src/lib.rt:812:13
 add-a-2 : tie.Need-add-a-2 Inv-loop μ-loop
 add-a-2 c =
     let t : rowFits (c .before .before .before .before .before .before .before .args .body .now) (c .before .before .before .before .loop .a) ≡ true = sym (c .before .before .row-fits .ensures) ∙ not-false (c .before .before .row-fits .result) (c .before .if1 .left) in
     record { fits = omega (arith, row-few (c .before .before .before .before .before .before .before .args .body .now) (c .before .before .before .before .loop .a) (rw t tt), c .word2 .ensures) }
 
--- src/lib.rt:813:9
 sub-m : tie.Need-sub-m Inv-loop μ-loop
 sub-m c = search needs
 
--- src/lib.rt:808:5
 loop-less : tie.Need-loop-less Inv-loop μ-loop
 loop-less c = search needs
 
--- src/lib.rt:808:5
 loop-again : tie.Need-loop-again Inv-loop μ-loop
 loop-again c =
     let t : rowFits (c .before .before .before .before .before .before .before .args .body .now) (c .before .before .before .before .loop .a) ≡ true = sym (c .before .before .row-fits .ensures) ∙ not-false (c .before .before .row-fits .result) (c .before .if1 .left) in
@@ -84,7 +67,6 @@ loop-again c =
       and-yes (rowFits (c .before .before .before .before .before .before .before .args .body .now) (c .before .before .before .before .loop .a)) _ t ∙ sym (rows-fit-step (c .before .before .before .before .before .before .before .args .body .now) (c .before .before .before .before .loop .m) (c .before .before .before .before .loop .a) (search needs)) ∙ c .before .before .before .before .loop .inv .1,
     )
 
--- src/lib.rt:802:1
 returns-2 : tie.Need-returns-2 Inv-loop μ-loop
 unfolding rowsFit
 returns-2 c = let e : c .before .loop .m ≡ 0 = omega arith in rw e at (c .before .loop .inv .1)

@@ -1,70 +1,54 @@
-use mathlib.Core.Path.{_≡_, refl, ap, _∙_}
-use mathlib.Core.List.{List, [], _∷_}
+-- `rule_form`: by the kinds, in the definition's order.
+use mathlib.Core.Path.{ap, _∙_}
+use mathlib.Core.List.{[], _∷_}
 use lib.IntN.{ℤ}
 use mir.Syntax.{w64}
 use mir.Val.{SFits}
 use mir.Facts.{toZ-ofZ}
 use borrow.Author.Tests.{eq-eqb, ne-eqb}
-use Rattle.lines.specs.Lines.{Form, atCfaPlus, cfaPlus}
+use Rattle.lines.specs.Lines.{atCfaPlus, cfaPlus}
 use Rattle.lines.specs.Rules.{formOf}
 use Rattle.dwarf.specs.Dwarf.{ruleForms}
 use Rattle.dwarf.specs.Cache.{formed}
-use native.Mathlib.Omega.{arith}
 use borrow.Author.Needs.{needs}
 use Rattle.dwarf.proofs.rule_form.Statement.{statement}
 use Rattle.dwarf.proofs.rule_form.Tie as tie
-use Rattle.dwarf.proofs.rule_form.Reads as reads
-use Rattle.dwarf.proofs.rule_form.Lts as lts
-use Rattle.dwarf.proofs.no_form.Reads as no-form-reads
-use Rattle.dwarf.proofs.register_form.Reads as register-form-reads
-use Rattle.dwarf.proofs.signed_of.Reads as signed-of-reads
-use Rattle.dwarf.proofs.value_form.Reads as value-form-reads
 
--- src/lib.rt:341:9
 register-form-requires : tie.Need-register-form-requires
 register-form-requires c κs = search needs
 
--- src/lib.rt:341:9
 returns : tie.Need-returns
 unfolding ruleForms
 returns c = rw (eq-eqb (c .before .before .before .args .rule .kind) 0 (c .before .if1 .taken)) (c .register-form .ensures)
 
--- src/lib.rt:344:36
 signed-of-requires : tie.Need-signed-of-requires
 signed-of-requires c κs = search needs
 
--- src/lib.rt:345:9
 returns-2 : tie.Need-returns-2
 unfolding ruleForms formed formOf
 returns-2 c =
     let f : SFits w64 (c .signed-of .result) = search needs in
     rw (ne-eqb (c .before .before .before .before .before .args .rule .kind) 0 (c .before .before .before .if1 .left), eq-eqb (c .before .before .before .before .before .args .rule .kind) 1 (c .before .if2 .taken)) (ap (λ (z : ℤ). atCfaPlus z ∷ []) (toZ-ofZ f ∙ c .signed-of .ensures))
 
--- src/lib.rt:348:34
 signed-of-requires-2 : tie.Need-signed-of-requires-2
 signed-of-requires-2 c κs = search needs
 
--- src/lib.rt:349:9
 returns-3 : tie.Need-returns-3
 unfolding ruleForms formed formOf
 returns-3 c =
     let f : SFits w64 (c .signed-of2 .result) = search needs in
     rw (ne-eqb (c .before .before .before .before .before .before .before .args .rule .kind) 0 (c .before .before .before .before .before .if1 .left), ne-eqb (c .before .before .before .before .before .before .before .args .rule .kind) 1 (c .before .before .before .if2 .left), eq-eqb (c .before .before .before .before .before .before .before .args .rule .kind) 2 (c .before .if3 .taken)) (ap (λ (z : ℤ). cfaPlus z ∷ []) (toZ-ofZ f ∙ c .signed-of2 .ensures))
 
--- src/lib.rt:352:9
 value-form-requires : tie.Need-value-form-requires
 value-form-requires c κs = search needs
 
--- src/lib.rt:352:9
 returns-4 : tie.Need-returns-4
 unfolding ruleForms
 returns-4 c = rw (ne-eqb (c .before .before .before .before .before .before .before .before .before .args .rule .kind) 0 (c .before .before .before .before .before .before .before .if1 .left), ne-eqb (c .before .before .before .before .before .before .before .before .before .args .rule .kind) 1 (c .before .before .before .before .before .if2 .left), ne-eqb (c .before .before .before .before .before .before .before .before .before .args .rule .kind) 2 (c .before .before .before .if3 .left), eq-eqb (c .before .before .before .before .before .before .before .before .before .args .rule .kind) 3 (c .before .if4 .taken)) (c .value-form .ensures)
 
--- src/lib.rt:354:5
 no-form-requires : tie.Need-no-form-requires
 no-form-requires c κs = search needs
 
--- src/lib.rt:337:1
 returns-5 : tie.Need-returns-5
 unfolding ruleForms
 returns-5 c = rw (ne-eqb (c .before .before .before .before .before .before .before .before .before .args .rule .kind) 0 (c .before .before .before .before .before .before .before .if1 .left), ne-eqb (c .before .before .before .before .before .before .before .before .before .args .rule .kind) 1 (c .before .before .before .before .before .if2 .left), ne-eqb (c .before .before .before .before .before .before .before .before .before .args .rule .kind) 2 (c .before .before .before .if3 .left), ne-eqb (c .before .before .before .before .before .before .before .before .before .args .rule .kind) 3 (c .before .if4 .left)) (c .no-form .ensures)

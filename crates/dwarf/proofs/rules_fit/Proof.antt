@@ -1,3 +1,4 @@
+-- `rules_fit`: the rules left fit where all do.
 use mathlib.Core.Path.{_≡_, refl, sym, _∙_}
 use Prim.Native.Nat.{_+_, _*_}
 use borrow.Author.Tests.{not-true, not-false}
@@ -7,9 +8,6 @@ use borrow.Author.Needs.{needs}
 use native.Mathlib.Omega.{arith}
 use Rattle.dwarf.proofs.rules_fit.Statement.{statement}
 use Rattle.dwarf.proofs.rules_fit.Tie as tie
-use Rattle.dwarf.proofs.rules_fit.Reads as reads
-use Rattle.dwarf.proofs.rules_fit.Lts as lts
-use Rattle.dwarf.proofs.rule_fits.Reads as rule-fits-reads
 
 abbrev Inv-loop : tie.InvT-loop
 Inv-loop body from n a₀ k₀ a k = (a + 4 * k ≡ from + 4 * n) × (rulesFit body k a ≡ rulesFit body n from)
@@ -17,35 +15,27 @@ Inv-loop body from n a₀ k₀ a k = (a + 4 * k ≡ from + 4 * n) × (rulesFit b
 abbrev μ-loop : tie.MeasureT-loop
 μ-loop body from n a₀ k₀ a k = k
 
--- src/lib.rt:731:5
 loop-holds : tie.Need-loop-holds Inv-loop μ-loop
 loop-holds c = (refl, refl)
 
--- src/lib.rt:732:13
 rule-fits-requires : tie.Need-rule-fits-requires Inv-loop μ-loop
 rule-fits-requires c κs = search needs
 
--- src/lib.rt:733:13
 returns : tie.Need-returns Inv-loop μ-loop
 returns c = and-no (ruleFits (c .before .before .before .before .before .args .body .now) (c .before .before .before .loop .a)) _ (sym (c .before .rule-fits .ensures) ∙ not-true (c .before .rule-fits .result) (c .if1 .taken)) ∙ sym (rules-fit-step (c .before .before .before .before .before .args .body .now) (c .before .before .before .loop .k) (c .before .before .before .loop .a) (search needs)) ∙ c .before .before .before .loop .inv .1
 
--- src/lib.rt:735:9
 add-a : tie.Need-add-a Inv-loop μ-loop
 add-a c = search needs
 
--- src/lib.rt:736:9
 sub-k : tie.Need-sub-k Inv-loop μ-loop
 sub-k c = search needs
 
--- src/lib.rt:731:5
 loop-less : tie.Need-loop-less Inv-loop μ-loop
 loop-less c = search needs
 
--- src/lib.rt:731:5
 loop-again : tie.Need-loop-again Inv-loop μ-loop
 loop-again c = (omega arith, and-yes (ruleFits (c .before .before .before .before .before .args .body .now) (c .before .before .before .loop .a)) _ (sym (c .before .rule-fits .ensures) ∙ not-false (c .before .rule-fits .result) (c .if1 .left)) ∙ sym (rules-fit-step (c .before .before .before .before .before .args .body .now) (c .before .before .before .loop .k) (c .before .before .before .loop .a) (search needs)) ∙ c .before .before .before .loop .inv .1)
 
--- src/lib.rt:725:1
 returns-2 : tie.Need-returns-2 Inv-loop μ-loop
 unfolding rulesFit
 returns-2 c = let e : c .before .loop .k ≡ 0 = omega arith in rw e at (c .before .loop .inv .1)

@@ -1,4 +1,5 @@
-use mathlib.Core.Path.{_≡_, ap, _∙_}
+-- `scan_rules`: the loop of `ScanLeft`: what is left from here gives what all gives.
+use mathlib.Core.Path.{ap, _∙_}
 use mathlib.Core.Bool.{Bool, cond, _&&_, _||_}
 use mathlib.Core.List.{[]}
 use lib.Dec.{eqb}
@@ -9,13 +10,6 @@ use borrow.Author.Needs.{needs}
 use native.Mathlib.Omega.{arith}
 use Rattle.dwarf.proofs.scan_rules.Statement.{statement}
 use Rattle.dwarf.proofs.scan_rules.Tie as tie
-use Rattle.dwarf.proofs.scan_rules.Reads as reads
-use Rattle.dwarf.proofs.scan_rules.Lts as lts
-use Rattle.dwarf.proofs.RuleCache.remember.Reads as remember-reads
-use Rattle.dwarf.proofs.both.Reads as both-reads
-use Rattle.dwarf.proofs.either.Reads as either-reads
-use Rattle.dwarf.proofs.rule_at.Reads as rule-at-reads
-use Rattle.dwarf.proofs.rule_written.Reads as rule-written-reads
 
 abbrev Inv-loop : tie.InvT-loop
 Inv-loop body from n family ra already seen₀ written₀ moved₀ a₀ k₀ seen written moved a k = ScanLeft body family ra already seen₀ from n seen written moved a k
@@ -23,54 +17,42 @@ Inv-loop body from n family ra already seen₀ written₀ moved₀ a₀ k₀ see
 abbrev μ-loop : tie.MeasureT-loop
 μ-loop body from n family ra already seen₀ written₀ moved₀ a₀ k₀ seen written moved a k = k
 
--- src/lib.rt:486:5
 loop-holds : tie.Need-loop-holds Inv-loop μ-loop
 loop-holds c = scan-all (omega (arith, c .before .pre .2))
 
--- src/lib.rt:487:13
 rule-at-requires : tie.Need-rule-at-requires Inv-loop μ-loop
 rule-at-requires c κs = omega (arith, c .before .loop .inv .rules .at)
 
--- src/lib.rt:488:13
 remember-requires : tie.Need-remember-requires Inv-loop μ-loop
 remember-requires c κs = rules-room (c .before .before .loop .inv .rules) (search needs) (c .rule-at .ensures) (c .before .before .before .before .pre .2)
 
--- src/lib.rt:490:35
 rule-written-requires : tie.Need-rule-written-requires Inv-loop μ-loop
 rule-written-requires c κs = search needs
 
--- src/lib.rt:490:9
 either-requires : tie.Need-either-requires Inv-loop μ-loop
 either-requires c κs = search needs
 
--- src/lib.rt:491:31
 both-requires : tie.Need-both-requires Inv-loop μ-loop
 both-requires c κs = search needs
 
--- src/lib.rt:491:9
 either-requires-2 : tie.Need-either-requires-2 Inv-loop μ-loop
 either-requires-2 c κs = search needs
 
--- src/lib.rt:493:9
 add-a : tie.Need-add-a Inv-loop μ-loop
 add-a c = record { fits = omega (arith, c .before .before .before .before .before .before .before .before .before .loop .inv .rules .at) }
 
--- src/lib.rt:494:9
 sub-k : tie.Need-sub-k Inv-loop μ-loop
 sub-k c = search needs
 
--- src/lib.rt:486:5
 loop-less : tie.Need-loop-less Inv-loop μ-loop
 loop-less c = search needs
 
--- src/lib.rt:486:5
 loop-again : tie.Need-loop-again Inv-loop μ-loop
 loop-again c =
     scan-turn {c₁ = c .before .before .before .before .before .before .remember .result .cache} (c .before .before .before .before .before .before .before .before .before .loop .inv) (search needs) (c .before .before .before .before .before .before .before .rule-at .ensures) (c .before .before .before .before .before .before .before .before .before .before .before .pre .2) (c .before .before .before .before .before .before .remember .ensures .0) (c .before .before .before .before .before .before .remember .ensures .1 .0)
     (c .before .before .before .before .either .ensures ∙ ap (λ (t : Bool). c .before .before .before .before .before .before .before .before .before .loop .written || t) (c .before .before .before .before .before .rule-written .ensures ∙ ap (λ (t : Bool). any (cond t (ruleRules (c .before .before .before .before .before .before .before .before .before .before .before .args .family) (c .before .before .before .before .before .before .before .before .before .before .before .args .ra) (c .before .before .before .before .before .before .before .rule-at .result)) [])) (c .before .before .before .before .before .before .remember .ensures .1 .1)))
     (c .before .either2 .ensures ∙ ap (λ (t : Bool). c .before .before .before .before .before .before .before .before .before .loop .moved || t) (c .before .before .both .ensures ∙ ap (λ (t : Bool). eqb (c .before .before .before .before .before .before .before .rule-at .result .register) (c .before .before .before .before .before .before .before .before .before .before .before .args .ra) && t) (c .before .before .before .before .before .before .remember .ensures .1 .1)))
 
--- src/lib.rt:469:1
 returns : tie.Need-returns Inv-loop μ-loop
 returns c = scan-done (c .before .loop .inv) (search needs)
 

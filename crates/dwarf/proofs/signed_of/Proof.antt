@@ -1,4 +1,4 @@
-use mathlib.Core.Path.{_∙_}
+-- `signed_of`: the two halves of 64 bits; the upper one is -1 - (2^64 - 1 - w).
 use lib.IntN.{negsuc}
 use Prim.Native.Nat.{_-_}
 use mir.Syntax.{w64}
@@ -10,31 +10,23 @@ use native.Mathlib.Omega.{arith}
 use borrow.Author.Needs.{needs}
 use Rattle.dwarf.proofs.signed_of.Statement.{statement}
 use Rattle.dwarf.proofs.signed_of.Tie as tie
-use Rattle.dwarf.proofs.signed_of.Reads as reads
-use Rattle.dwarf.proofs.signed_of.Lts as lts
 
--- src/lib.rt:93:9
 cast-result : tie.Need-cast-result
 cast-result c = search needs
 
--- src/lib.rt:95:18
 sub-result : tie.Need-sub-result
 sub-result c = search needs
 
--- src/lib.rt:95:17
 cast-result-2 : tie.Need-cast-result-2
 cast-result-2 c = search needs
 
--- src/lib.rt:95:9
 sub-result-2 : tie.Need-sub-result-2
 sub-result-2 c = rw (toZ-pos w64 {n = 18446744073709551615 - c .before .args .w} (omega arith), below-zero) (record { sfits = omega arith })
 
--- src/lib.rt:89:1
 returns : tie.Need-returns
 unfolding twos
 returns c = simp (toZ-pos w64 {n = c .before .args .w} (c .if1 .taken), lt-ltb (c .before .args .w) 9223372036854775808 (c .if1 .taken))
 
--- src/lib.rt:89:1
 returns-2 : tie.Need-returns-2
 unfolding twos
 returns-2 c =

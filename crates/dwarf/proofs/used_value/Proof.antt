@@ -1,23 +1,17 @@
+-- `used_value`: each return is a test of the definition.
 use borrow.Author.Tests.{le-leb, lt-leb}
 use Rattle.dwarf.specs.Dwarf.{usedValue}
-use borrow.Author.Needs.{needs}
-use native.Mathlib.Omega.{arith}
 use Rattle.dwarf.proofs.used_value.Statement.{statement}
 use Rattle.dwarf.proofs.used_value.Tie as tie
-use Rattle.dwarf.proofs.used_value.Reads as reads
-use Rattle.dwarf.proofs.used_value.Lts as lts
 
--- src/lib.rt:103:9
 returns : tie.Need-returns
 unfolding usedValue
 returns c = rw (lt-leb 1 (c .before .args .kind) (c .if1 .taken))
 
--- src/lib.rt:106:9
 returns-2 : tie.Need-returns-2
 unfolding usedValue
 returns-2 c = rw (le-leb 1 (c .before .before .args .kind) (c .before .if1 .left), lt-leb (c .before .before .args .kind) 3 (c .if2 .taken))
 
--- src/lib.rt:99:1
 returns-3 : tie.Need-returns-3
 unfolding usedValue
 returns-3 c = rw (le-leb 1 (c .before .before .args .kind) (c .before .if1 .left), le-leb (c .before .before .args .kind) 3 (c .if2 .left))

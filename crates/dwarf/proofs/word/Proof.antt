@@ -1,25 +1,19 @@
+-- `word`: within the body it is read, past its end the list's default.
 use mathlib.Core.Path.{sym}
 use lib.ListN.{List·getD-eq-default}
-use native.Mathlib.Omega.{arith}
 use borrow.Author.Needs.{needs}
 use Rattle.dwarf.proofs.word.Statement.{statement}
 use Rattle.dwarf.proofs.word.Tie as tie
-use Rattle.dwarf.proofs.word.Reads as reads
-use Rattle.dwarf.proofs.word.Lts as lts
 
--- src/lib.rt:73:16
 mul-result : tie.Need-mul-result
 mul-result c = search needs
 
--- src/lib.rt:73:16
 shared-slice-read-result : tie.Need-shared-slice-read-result
 shared-slice-read-result c = search needs
 
--- src/lib.rt:73:9
 returns : tie.Need-returns
 returns c = search needs
 
--- src/lib.rt:69:1
 returns-2 : tie.Need-returns-2
 returns-2 c = sym (List·getD-eq-default (c .before .args .body .now) 0 (search needs))
 

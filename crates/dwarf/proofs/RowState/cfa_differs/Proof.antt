@@ -1,26 +1,18 @@
-use mathlib.Core.Path.{_≡_, sym, refl, _∙_}
+-- `cfa_differs`: each return is a test of the definition.
 use borrow.Author.Tests.{eq-eqb, ne-eqb, not-true, not-false}
 use Rattle.dwarf.proofs.Forms.{cfa-none, cfa-some}
-use borrow.Author.Needs.{needs}
-use native.Mathlib.Omega.{arith}
 use Rattle.dwarf.proofs.RowState.cfa_differs.Statement.{statement}
 use Rattle.dwarf.proofs.RowState.cfa_differs.Tie as tie
-use Rattle.dwarf.proofs.RowState.cfa_differs.Reads as reads
-use Rattle.dwarf.proofs.RowState.cfa_differs.Lts as lts
 
--- src/lib.rt:274:13
 returns : tie.Need-returns
 returns c = cfa-none (c .before .before .args .self) (c .before .before .args .cfa) (not-true _ (c .if1 .taken))
 
--- src/lib.rt:278:13
 returns-2 : tie.Need-returns-2
 returns-2 c = cfa-some (c .before .before .before .before .before .before .args .self) (c .before .before .before .before .before .before .args .cfa) _ (not-false _ (c .before .before .before .before .if1 .left)) (rw (ne-eqb (c .before .before .before .before .before .before .args .self .cfa .kind) (c .before .before .before .before .before .before .args .cfa .kind) (c .if2 .taken)))
 
--- src/lib.rt:281:13
 returns-3 : tie.Need-returns-3
 returns-3 c = cfa-some (c .before .before .before .before .before .before .before .before .before .args .self) (c .before .before .before .before .before .before .before .before .before .args .cfa) _ (not-false _ (c .before .before .before .before .before .before .before .if1 .left)) (rw (eq-eqb (c .before .before .before .before .before .before .before .before .before .args .self .cfa .kind) (c .before .before .before .before .before .before .before .before .before .args .cfa .kind) (c .before .before .before .if2 .left), ne-eqb (c .before .before .before .before .before .before .before .before .before .args .self .cfa .register) (c .before .before .before .before .before .before .before .before .before .args .cfa .register) (c .if3 .taken)))
 
--- src/lib.rt:270:5
 returns-4 : tie.Need-returns-4
 returns-4 c = cfa-some (c .before .before .before .before .before .before .before .before .before .before .before .args .self) (c .before .before .before .before .before .before .before .before .before .before .before .args .cfa) _ (not-false _ (c .before .before .before .before .before .before .before .before .before .if1 .left)) (rw (eq-eqb (c .before .before .before .before .before .before .before .before .before .before .before .args .self .cfa .kind) (c .before .before .before .before .before .before .before .before .before .before .before .args .cfa .kind) (c .before .before .before .before .before .if2 .left), eq-eqb (c .before .before .before .before .before .before .before .before .before .before .before .args .self .cfa .register) (c .before .before .before .before .before .before .before .before .before .before .before .args .cfa .register) (c .before .before .if3 .left)))
 

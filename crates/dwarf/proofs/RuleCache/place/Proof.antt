@@ -1,9 +1,8 @@
+-- `place`: no place before i holds the register.
 use borrow.Author.Needs.{needs}
 use native.Mathlib.Omega.{arith}
 use Rattle.dwarf.proofs.RuleCache.place.Statement.{statement}
 use Rattle.dwarf.proofs.RuleCache.place.Tie as tie
-use Rattle.dwarf.proofs.RuleCache.place.Reads as reads
-use Rattle.dwarf.proofs.RuleCache.place.Lts as lts
 use Prim.Native.Nat.{ℕ, _≤_, _<_, _-_}
 use mathlib.Core.Path.{_≡_, sym, _∙_}
 use Rattle.dwarf.proofs.Places.{first-at, none-at}

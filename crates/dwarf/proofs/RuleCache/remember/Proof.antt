@@ -1,18 +1,16 @@
+-- `remember`: the same rule leaves all as it was, another replaces it at its place, a new register comes behind the others.
 use borrow.Author.Needs.{needs}
 use native.Mathlib.Omega.{arith}
-use Prim.Native.Nat.{ℕ, _≤_, _<_}
-use mathlib.Core.Path.{_≡_, sym, _∙_, fun-ext}
+use Prim.Native.Nat.{_≤_, _<_}
+use mathlib.Core.Path.{_≡_, fun-ext}
 use mathlib.Core.Logic.{⊎-elim}
 use lib.ListN.{length, getD}
 use Rattle.dwarf.specs.Dwarf.{differs, seen}
-use Rattle.dwarf.specs.Cache.{placeOf, lookup}
+use Rattle.dwarf.specs.Cache.{placeOf}
 use Rattle.dwarf.proofs.Store.{kept, replaced, appended, differs-at, same-rule, other-kind, other-value, differs-new, place-le, newly-at, newly-not, newly-few}
 use mathlib.Core.Bool.{true, false}
 use Rattle.dwarf.proofs.RuleCache.remember.Statement.{statement}
 use Rattle.dwarf.proofs.RuleCache.remember.Tie as tie
-use Rattle.dwarf.proofs.RuleCache.remember.Reads as reads
-use Rattle.dwarf.proofs.RuleCache.remember.Lts as lts
-use Rattle.dwarf.proofs.RuleCache.place.Reads as place-reads
 
 place-requires : tie.Need-place-requires
 place-requires c κs = search needs
