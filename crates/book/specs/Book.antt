@@ -3,7 +3,7 @@
 -- Only `startOf`, `sizeOf` and `firstBody` know the layout of the contents.
 use mathlib.Core.Path.{_≡_, refl, sym, ap, _∙_}
 use mathlib.Core.List.{List, [], _∷_, _++_}
-use mathlib.Core.Bool.{Bool, true, false, _&&_, false≢true, not}
+use mathlib.Core.Bool.{Bool, true, false, _&&_, false≢true}
 use Prim.Native.Nat.{ℕ, zero, suc, _+_, _*_, _-_, _≤_, _<_}
 use native.Mathlib.Omega.{arith}
 use lib.ListN.{length, getD, take, drop, take-append-drop}
@@ -28,16 +28,13 @@ sizeOf b i = getD b (3 + 2 * i) 0
 abbrev pub firstBody : ℕ → ℕ
 firstBody n = 2 + 2 * n
 
--- the kinds that are translated: 1 to this one, without the one that is to come
+-- the kinds: 1 x64, 2 ARM64, 3 DWARF, 4 PDB
 abbrev pub KINDS : ℕ
 KINDS = 4
 
-abbrev pub TO-COME : ℕ
-TO-COME = 3
-
--- 2 to 16,384 words, a kind that is translated, at most 1,024 bodies, all contents pairs there
+-- 2 to 16,384 words, kind 1 to 4, at most 1,024 bodies, all contents pairs there
 unfoldable pub headerOk : List ℕ → Bool
-headerOk b = leb 2 (length b) && leb (length b) 16384 && leb 1 (kind b) && leb (kind b) KINDS && not (eqb (kind b) TO-COME) && leb (count b) 1024 && leb (firstBody (count b)) (length b)
+headerOk b = leb 2 (length b) && leb (length b) 16384 && leb 1 (kind b) && leb (kind b) KINDS && leb (count b) 1024 && leb (firstBody (count b)) (length b)
 
 -- k bodies from pair i on follow each other from word s to the end
 unfoldable pub bodiesOk : List ℕ → ℕ → ℕ → ℕ → Bool

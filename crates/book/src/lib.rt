@@ -5,11 +5,8 @@ ghost use Prim.Native.Nat.{_^_, _≤_, _<_};
 ghost use lib.ListN.{length, getD};
 ghost use Rattle.book.specs.Book.{kind, count, startOf, sizeOf, firstBody, headerOk, bodiesOk, contentsOk};
 
-// The kinds that are translated: 1 to this one, without `TO_COME`.
+// The kinds: 1 to this one.
 const KINDS: u32 = 4;
-
-// DWARF books are not translated yet.
-const TO_COME: u32 = 3;
 
 const MOST_BODIES: usize = 1024;
 
@@ -77,9 +74,6 @@ fn header_ok(book: &[u32]) -> bool
         return false;
     }
     if KINDS < kind {
-        return false;
-    }
-    if kind == TO_COME {
         return false;
     }
     let n = count_of(book);

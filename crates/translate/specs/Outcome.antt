@@ -10,13 +10,15 @@ use Rattle.entry.specs.Entry.{Entry, noLast}
 use Rattle.book.specs.Book.{kind, bodies, contentsOk}
 use Rattle.x64.specs.X64.{x64Entry}
 use Rattle.arm64.specs.Arm64.{armEntry}
+use Rattle.dwarf.specs.Dwarf.{dwarfEntry}
 use Rattle.pdb.specs.Pdb.{pdbEntry}
 use Rattle.translate.specs.declared.Returned.{Returned}
 pub mod Laws
 
 -- an entry, by the book's kind: 4, skipping, 5 to 7, its text, and what it leaves to the next
 unfoldable pub entryOf : ℕ → ℕ → Last → List ℕ → Entry
-entryOf kind limit last body = cond (eqb kind 2) (armEntry last body) (cond (eqb kind 4) (pdbEntry last body) (x64Entry limit last body))
+entryOf kind limit last body =
+    cond (eqb kind 2) (armEntry last body) (cond (eqb kind 3) (dwarfEntry last body) (cond (eqb kind 4) (pdbEntry last body) (x64Entry limit last body)))
 
 -- ---- the entries in turn
 

@@ -20,6 +20,8 @@ use Rattle.book.specs.Book.{kind, bodies, contentsOk}
 use Rattle.x64.specs.X64.{x64Entry}
 use Rattle.x64.specs.Sense.{x64Lines, x64-entry-text, x64-entry-ok}
 use Rattle.arm64.specs.Arm64.{armEntry}
+use Rattle.dwarf.specs.Dwarf.{dwarfEntry}
+use Rattle.dwarf.specs.Sense.{dwarfLines, dwarf-entry-text, dwarf-entry-ok}
 use Rattle.pdb.specs.Pdb.{pdbEntry}
 use Rattle.pdb.specs.Sense.{pdbLines, pdb-entry-text, pdb-entry-ok}
 use Rattle.arm64.specs.Sense.{armLines, arm-entry-text, arm-entry-ok}
@@ -30,7 +32,8 @@ use Rattle.translate.specs.Outcome.{AREA, MOST-LIMIT, entryOf, verdict, 
 
 -- the lines of an entry, from its body's words; none where it is refused or skipped
 unfoldable pub linesOf : ℕ → ℕ → Last → List ℕ → List Line
-linesOf kind limit last body = cond (eqb kind 2) (armLines body) (cond (eqb kind 4) (pdbLines last body) (x64Lines limit body))
+linesOf kind limit last body =
+    cond (eqb kind 2) (armLines body) (cond (eqb kind 3) (dwarfLines body) (cond (eqb kind 4) (pdbLines last body) (x64Lines limit body)))
 
 unfoldable pub senseFrom : ℕ → ℕ → Last → List (List ℕ) → List Line
 senseFrom k l s [] = []
@@ -48,21 +51,24 @@ sixSpaces kind = eqb kind 2
 
 entry-text : (k l : ℕ) (s : Last) (b : List ℕ) → entryOf k l s b .text ≡ render (sixSpaces k) (linesOf k l s b)
 unfolding entryOf linesOf sixSpaces
-entry-text k l s b = go (eqb k 2) (eqb k 4)
+entry-text k l s b = go (eqb k 2) (eqb k 3) (eqb k 4)
   where
-    go : (t u : Bool) → cond t (armEntry s b) (cond u (pdbEntry s b) (x64Entry l s b)) .text ≡ render t (cond t (armLines b) (cond u (pdbLines s b) (x64Lines l b)))
-    go true u = arm-entry-text s b
-    go false true = pdb-entry-text s b
-    go false false = x64-entry-text l s b
+    go : (t u v : Bool) → cond t (armEntry s b) (cond u (dwarfEntry s b) (cond v (pdbEntry s b) (x64Entry l s b))) .text
+        ≡ render t (cond t (armLines b) (cond u (dwarfLines b) (cond v (pdbLines s b) (x64Lines l b))))
+    go true u v = arm-entry-text s b
+    go false true v = dwarf-entry-text s b
+    go false false true = pdb-entry-text s b
+    go false false false = x64-entry-text l s b
 
 entry-ok : (k l : ℕ) (s : Last) (b : List ℕ) → T (all lineOk (linesOf k l s b))
 unfolding linesOf
-entry-ok k l s b = go (eqb k 2) (eqb k 4)
+entry-ok k l s b = go (eqb k 2) (eqb k 3) (eqb k 4)
   where
-    go : (t u : Bool) → T (all lineOk (cond t (armLines b) (cond u (pdbLines s b) (x64Lines l b))))
-    go true u = arm-entry-ok b
-    go false true = pdb-entry-ok s b
-    go false false = x64-entry-ok l b
+    go : (t u v : Bool) → T (all lineOk (cond t (armLines b) (cond u (dwarfLines b) (cond v (pdbLines s b) (x64Lines l b)))))
+    go true u v = arm-entry-ok b
+    go false true v = dwarf-entry-ok b
+    go false false true = pdb-entry-ok s b
+    go false false false = x64-entry-ok l b
 
 -- ---- the text of a translated book is its sense, rendered
 

@@ -44,6 +44,7 @@ fn process(kind: u32, limit: u32, last: Last, body: &[u32], out: &mut [u8], at: 
 {
     match kind {
         2 => arm64::process_pe_arm64(out, at, body, last),
+        3 => dwarf::process_fde(out, at, body, last),
         4 => pdb::process_pdb(out, at, body, last),
         _ => x64::process_pe(out, at, body, limit, last),
     }

@@ -1,8 +1,7 @@
 -- `header_ok`: one test for each part of `headerOk`; the first that fails decides.
-use mathlib.Core.Path.{sym, _∙_}
 use lib.ListN.{length}
-use borrow.Author.Tests.{le-leb, lt-leb, eq-eqb, ne-eqb}
-use Rattle.book.specs.Book.{KINDS, TO-COME, kind, count, headerOk}
+use borrow.Author.Tests.{le-leb, lt-leb}
+use Rattle.book.specs.Book.{KINDS, kind, count, headerOk}
 use native.Mathlib.Omega.{arith}
 use borrow.Author.Needs.{needs}
 use Rattle.book.proofs.header_ok.Statement.{statement}
@@ -47,29 +46,14 @@ returns-4 c =
       lt-leb (kind b) KINDS (omega (arith, kind-of .ensures)),
     )
 
-returns-5 : tie.Need-returns-5
-unfolding headerOk
-returns-5 c =
-    let kind-of = c .before .before .before .kind-of in
-    let args = c .before .before .before .before .before .before .before .args in
-    let b = args .book .now in
-    simp (
-      le-leb 2 (length b) (omega arith),
-      le-leb (length b) 16384 (omega arith),
-      le-leb 1 (kind b)
-          (omega (arith, kind-of .ensures)),
-      le-leb (kind b) KINDS (omega (arith, kind-of .ensures)),
-      eq-eqb (kind b) TO-COME (sym (kind-of .ensures) ∙ c .if5 .taken),
-    )
-
 count-of-requires : tie.Need-count-of-requires
 count-of-requires c κs = search needs
 
-returns-6 : tie.Need-returns-6
+returns-5 : tie.Need-returns-5
 unfolding headerOk
-returns-6 c =
-    let kind-of = c .before .before .before .before .before .kind-of in
-    let args = c .before .before .before .before .before .before .before .before .before .args in
+returns-5 c =
+    let kind-of = c .before .before .before .before .kind-of in
+    let args = c .before .before .before .before .before .before .before .before .args in
     let b = args .book .now in
     simp (
       le-leb 2 (length b) (omega arith),
@@ -77,7 +61,6 @@ returns-6 c =
       le-leb 1 (kind b)
           (omega (arith, kind-of .ensures)),
       le-leb (kind b) KINDS (omega (arith, kind-of .ensures)),
-      ne-eqb (kind b) TO-COME (λ e. c .before .before .if5 .left (kind-of .ensures ∙ e)),
       lt-leb (count b) 1024
           (omega (arith, c .before .count-of .ensures)),
     )
@@ -88,11 +71,11 @@ mul-result c = search needs
 add-result : tie.Need-add-result
 add-result c = search needs
 
-returns-7 : tie.Need-returns-7
+returns-6 : tie.Need-returns-6
 unfolding headerOk
-returns-7 c =
-    let kind-of = c .before .before .before .before .before .kind-of in
-    let args = c .before .before .before .before .before .before .before .before .before .args in
+returns-6 c =
+    let kind-of = c .before .before .before .before .kind-of in
+    let args = c .before .before .before .before .before .before .before .before .args in
     let b = args .book .now in
     simp (
       c .before .count-of .ensures,
@@ -101,7 +84,6 @@ returns-7 c =
       le-leb 1 (kind b)
           (omega (arith, kind-of .ensures)),
       le-leb (kind b) KINDS (omega (arith, kind-of .ensures)),
-      ne-eqb (kind b) TO-COME (λ e. c .before .before .if5 .left (kind-of .ensures ∙ e)),
       le-leb (count b) 1024
           (omega (arith, c .before .count-of .ensures)),
     )
@@ -115,9 +97,8 @@ header-ok-spec =
     kind-of-requires
     returns-3
     returns-4
-    returns-5
     count-of-requires
-    returns-6
+    returns-5
     mul-result
     add-result
-    returns-7)
+    returns-6)
