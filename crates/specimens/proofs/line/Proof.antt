@@ -1,0 +1,25 @@
+-- `line`: the part that is written lies within the text.
+use native.Mathlib.Omega.{arith}
+use lib.ListN.{length-take}
+use borrow.Author.Needs.{needs}
+use Rattle.specimens.proofs.line.Statement.{statement}
+use Rattle.specimens.proofs.line.Tie as tie
+
+slice-aggregate-write-all : tie.Need-slice-aggregate-write-all
+slice-aggregate-write-all c = simp length-take (omega arith)
+
+write-all-requires : tie.Need-write-all-requires
+write-all-requires c κs = search needs
+
+returns : tie.Need-returns
+returns c = search needs
+
+returns-2 : tie.Need-returns-2
+returns-2 c = search needs
+
+returns-3 : tie.Need-returns-3
+returns-3 c = search needs
+
+pub line-spec : {M : Type 1} → statement M
+line-spec =
+    tie.close (tie.spec slice-aggregate-write-all write-all-requires returns returns-2 returns-3)
