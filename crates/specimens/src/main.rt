@@ -487,7 +487,7 @@ fn more_layouts() {
     );
 }
 
-// Refusal 3. Books of kinds 2, 3 and 4 are refused until these are translated.
+// Refusal 3, and books of each kind without entries.
 fn contents() {
     show(b"empty book", b"");
     show(b"one word", b"1 ");
