@@ -72,8 +72,11 @@ cases =
     ∷ record { last = noLast; body = long 0 2147483647; number = 0; text = ascii "STACK WIN 1 0 7fffffff 0 0 0 0 0 0 0 0\n"; next = 0 }
     ∷ record { last = noLast; body = long 9 2147483648; number = 0; text = []; next = 0 }
     ∷ record { last = noLast; body = long 2147483649 2147483647; number = 6; text = []; next = 0 }
-    -- two code ranges with one start
+    -- code start FFFFFFFFh with a prolog of 1 byte is out of reach
+    ∷ record { last = noLast; body = 0 ∷ 4294967295 ∷ 0 ∷ 1 ∷ 0 ∷ 0 ∷ 0 ∷ 0 ∷ 0 ∷ 0 ∷ 0 ∷ 0 ∷ 0 ∷ 0 ∷ 0 ∷ []; number = 6; text = []; next = 0 }
+    -- two code ranges with one start; a newline in a program
     ∷ record { last = noLast; body = 1 ∷ 9 ∷ 8 ∷ 0 ∷ 0 ∷ 0 ∷ 0 ∷ 0 ∷ 0 ∷ 0 ∷ 0 ∷ 0 ∷ 0 ∷ 2 ∷ 0 ∷ 9 ∷ 10 ∷ 9 ∷ 11 ∷ []; number = 4; text = []; next = 0 }
+    ∷ record { last = noLast; body = 1 ∷ 9 ∷ 8 ∷ 0 ∷ 0 ∷ 0 ∷ 0 ∷ 0 ∷ 0 ∷ 0 ∷ 1 ∷ 1 ∷ 0 ∷ 0 ∷ 1 ∷ 10 ∷ []; number = 4; text = []; next = 0 }
     ∷ []
 
 abbrev pub passes : Case → Bool

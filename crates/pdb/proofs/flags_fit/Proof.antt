@@ -32,7 +32,11 @@ returns-3 c =
     let c3 = c .before .before .before in
     let c5 = c3 .before .before in
     let c7 = c5 .before .before in
-    rw (le-leb (word (c7 .args .body .now) 7) 1 (omega (arith, c5 .word .ensures)), le-leb (word (c7 .args .body .now) 9) 1 (omega (arith, c3 .word2 .ensures)), lt-leb (word (c7 .args .body .now) 10) 1 (omega (arith, c .before .word3 .ensures)))
+    rw (
+      le-leb (word (c7 .args .body .now) 7) 1 (omega (arith, c5 .word .ensures)),
+      le-leb (word (c7 .args .body .now) 9) 1 (omega (arith, c3 .word2 .ensures)),
+      lt-leb (word (c7 .args .body .now) 10) 1 (omega (arith, c .before .word3 .ensures)),
+    )
 
 word-requires-4 : tie.Need-word-requires-4
 word-requires-4 c κs = search needs
@@ -44,7 +48,12 @@ returns-4 c =
     let c4 = c2 .before .before in
     let c6 = c4 .before .before in
     let c8 = c6 .before .before in
-    rw (c .word4 .ensures, le-leb (word (c8 .args .body .now) 7) 1 (omega (arith, c6 .word .ensures)), le-leb (word (c8 .args .body .now) 9) 1 (omega (arith, c4 .word2 .ensures)), le-leb (word (c8 .args .body .now) 10) 1 (omega (arith, c2 .word3 .ensures)))
+    rw (
+      c .word4 .ensures,
+      le-leb (word (c8 .args .body .now) 7) 1 (omega (arith, c6 .word .ensures)),
+      le-leb (word (c8 .args .body .now) 9) 1 (omega (arith, c4 .word2 .ensures)),
+      le-leb (word (c8 .args .body .now) 10) 1 (omega (arith, c2 .word3 .ensures)),
+    )
 
 pub flags-fit-spec : {M : Type 1} → statement M
 flags-fit-spec =

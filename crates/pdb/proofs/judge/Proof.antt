@@ -33,7 +33,11 @@ returns-3 c =
     let c3 = c2 .before in
     let c4 = c3 .before in
     let c5 = c4 .before in
-    rw (sym (c5 .layout .ensures) ∙ not-false (c5 .layout .result) (c4 .if1 .left), sym (c3 .skipped .ensures) ∙ c2 .if2 .left, sym (c .before .reach .ensures) ∙ not-true (c .before .reach .result) (c .if3 .taken))
+    rw (
+      sym (c5 .layout .ensures) ∙ not-false (c5 .layout .result) (c4 .if1 .left),
+      sym (c3 .skipped .ensures) ∙ c2 .if2 .left,
+      sym (c .before .reach .ensures) ∙ not-true (c .before .reach .result) (c .if3 .taken),
+    )
 
 returns-4 : tie.Need-returns-4
 unfolding pdbJudged
@@ -42,7 +46,11 @@ returns-4 c =
     let c3 = c2 .before in
     let c4 = c3 .before in
     let c5 = c4 .before in
-    rw (sym (c5 .layout .ensures) ∙ not-false (c5 .layout .result) (c4 .if1 .left), sym (c3 .skipped .ensures) ∙ c2 .if2 .left, sym (c .before .reach .ensures) ∙ not-false (c .before .reach .result) (c .if3 .left))
+    rw (
+      sym (c5 .layout .ensures) ∙ not-false (c5 .layout .result) (c4 .if1 .left),
+      sym (c3 .skipped .ensures) ∙ c2 .if2 .left,
+      sym (c .before .reach .ensures) ∙ not-false (c .before .reach .result) (c .if3 .left),
+    )
 
 pub judge-spec : {M : Type 1} → statement M
 judge-spec =

@@ -34,7 +34,11 @@ returns-3 c =
     let c3 = c2 .before in
     let c4 = c3 .before in
     let c5 = c4 .before in
-    rw (sym (c5 .sizes-fit .ensures) ∙ not-false (c5 .sizes-fit .result) (c4 .if1 .left), sym (c3 .flags-fit .ensures) ∙ not-false (c3 .flags-fit .result) (c2 .if2 .left), sym (c .before .counts-fit .ensures) ∙ not-true (c .before .counts-fit .result) (c .if3 .taken))
+    rw (
+      sym (c5 .sizes-fit .ensures) ∙ not-false (c5 .sizes-fit .result) (c4 .if1 .left),
+      sym (c3 .flags-fit .ensures) ∙ not-false (c3 .flags-fit .result) (c2 .if2 .left),
+      sym (c .before .counts-fit .ensures) ∙ not-true (c .before .counts-fit .result) (c .if3 .taken),
+    )
 
 rest-fits-requires : tie.Need-rest-fits-requires
 rest-fits-requires c κs =
@@ -49,7 +53,11 @@ returns-4 c =
     let c4 = c3 .before in
     let c5 = c4 .before in
     let c6 = c5 .before in
-    rw (sym (c6 .sizes-fit .ensures) ∙ not-false (c6 .sizes-fit .result) (c5 .if1 .left), sym (c4 .flags-fit .ensures) ∙ not-false (c4 .flags-fit .result) (c3 .if2 .left), sym (c2 .counts-fit .ensures) ∙ not-false (c2 .counts-fit .result) (c .before .if3 .left)) (c .rest-fits .ensures)
+    rw (
+      sym (c6 .sizes-fit .ensures) ∙ not-false (c6 .sizes-fit .result) (c5 .if1 .left),
+      sym (c4 .flags-fit .ensures) ∙ not-false (c4 .flags-fit .result) (c3 .if2 .left),
+      sym (c2 .counts-fit .ensures) ∙ not-false (c2 .counts-fit .result) (c .before .if3 .left),
+    ) (c .rest-fits .ensures)
 
 pub layout-spec : {M : Type 1} → statement M
 layout-spec =

@@ -21,7 +21,11 @@ returns-3 c =
     let c3 = c .before .before .before in
     let c6 = c3 .before .before .before in
     let c8 = c6 .before .before in
-    rw (not-false (c8 .args .last .some) (c6 .if1 .left), eq-eqb (c8 .args .last .ty) (c8 .args .next .ty) (c3 .if2 .left), ne-eqb (c8 .args .last .start) (c8 .args .next .start) (c .if3 .taken))
+    rw (
+      not-false (c8 .args .last .some) (c6 .if1 .left),
+      eq-eqb (c8 .args .last .ty) (c8 .args .next .ty) (c3 .if2 .left),
+      ne-eqb (c8 .args .last .start) (c8 .args .next .start) (c .if3 .taken),
+    )
 
 returns-4 : tie.Need-returns-4
 unfolding repeats
@@ -30,7 +34,12 @@ returns-4 c =
     let c6 = c3 .before .before .before in
     let c9 = c6 .before .before .before in
     let c11 = c9 .before .before in
-    rw (not-false (c11 .args .last .some) (c9 .if1 .left), eq-eqb (c11 .args .last .ty) (c11 .args .next .ty) (c6 .if2 .left), eq-eqb (c11 .args .last .start) (c11 .args .next .start) (c3 .if3 .left), ne-eqb (c11 .args .last .«code_size») (c11 .args .next .«code_size») (c .if4 .taken))
+    rw (
+      not-false (c11 .args .last .some) (c9 .if1 .left),
+      eq-eqb (c11 .args .last .ty) (c11 .args .next .ty) (c6 .if2 .left),
+      eq-eqb (c11 .args .last .start) (c11 .args .next .start) (c3 .if3 .left),
+      ne-eqb (c11 .args .last .«code_size») (c11 .args .next .«code_size») (c .if4 .taken),
+    )
 
 returns-5 : tie.Need-returns-5
 unfolding repeats
@@ -40,7 +49,12 @@ returns-5 c =
     let c8 = c5 .before .before .before in
     let c11 = c8 .before .before .before in
     let c13 = c11 .before .before in
-    rw (not-false (c13 .args .last .some) (c11 .if1 .left), eq-eqb (c13 .args .last .ty) (c13 .args .next .ty) (c8 .if2 .left), eq-eqb (c13 .args .last .start) (c13 .args .next .start) (c5 .if3 .left), eq-eqb (c13 .args .last .«code_size») (c13 .args .next .«code_size») (c2 .if4 .left))
+    rw (
+      not-false (c13 .args .last .some) (c11 .if1 .left),
+      eq-eqb (c13 .args .last .ty) (c13 .args .next .ty) (c8 .if2 .left),
+      eq-eqb (c13 .args .last .start) (c13 .args .next .start) (c5 .if3 .left),
+      eq-eqb (c13 .args .last .«code_size») (c13 .args .next .«code_size») (c2 .if4 .left),
+    )
 
 pub repeated-spec : {M : Type 1} → statement M
 repeated-spec = tie.close (tie.spec returns returns-2 returns-3 returns-4 returns-5)
