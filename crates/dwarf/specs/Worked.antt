@@ -78,6 +78,8 @@ cases =
       number = 6;
       text = [];
     }
+    ∷ record { words = 2 ∷ 0 ∷ 0 ∷ 0 ∷ 0 ∷ 16 ∷ 4294967295 ∷ 0 ∷ 0 ∷ 4 ∷ 0 ∷ 0 ∷ 7 ∷ 8 ∷ 0 ∷ 0 ∷ []; number = 4; text = [] }
+    ∷ record { words = 2 ∷ 0 ∷ 0 ∷ 0 ∷ 0 ∷ 16 ∷ 1 ∷ 0 ∷ 0 ∷ 4 ∷ 0 ∷ 0 ∷ 7 ∷ 8 ∷ 0 ∷ 4294967295 ∷ []; number = 4; text = [] }
     ∷ []
 
 -- the entry as it is run, and its lines' text

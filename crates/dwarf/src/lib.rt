@@ -9,6 +9,16 @@
 //     2 value offset   N, signed      is CFA + N
 //     3 register       register       is that register
 //     4 other          -              cannot be written; it is remembered all the same
+//
+// A body's words (document 01), where a 64-bit number is two words, the low one first:
+//
+//     0                family
+//     1                initial address
+//     3                load address
+//     5                return register
+//     6                row count
+//     7                rows, each: start, end (2), CFA kind (4), CFA register (5), CFA offset (6), rule count (8), rules (9)
+//     of a rule        register, kind (1), value (2); four words in all
 use entry::Judged;
 use entry::Last;
 use entry::Wrote;
@@ -34,11 +44,23 @@ ghost use Rattle.lines.specs.Lines.{initText, laterText, rulesText, lineText, r
 ghost use Rattle.dwarf.specs.Dwarf.{wide, twos, usedValue, ruleAt, rulesFrom, cfaAt, rows, firstStart, lastEnd, fdeOf, registers, member, once, ruleFits, rulesFit, rowFits, rowsFit, headFits, dwarfLayout, dwarfSkipped, anyBelow, dwarfReach, dwarfJudged, nameForm, ruleForms, ruleRules, cfaRules, raRules, defaultRules, lineOf, ranRow, differs, cfaDiffers, remembered, ranRules, dwarfText, dwarfEntry, noCfa, nothingSeen, ranRows, ranOf, rulesOf, rowAt, distinct};
 ghost use Rattle.dwarf.specs.Cache.{lookup, placeOf, cfaOf, newly, fresh, formed, formatted, any, Scanned, After, Known};
 
-// The rules last seen live in arrays of this many registers.
+// The registers that rules may name in a body.
 const MOST_REGISTERS: usize = 64;
 
 // Register numbers end here.
 const REGISTERS: u32 = 65536;
+
+// And here as values of rules.
+const REGISTER_VALUES: u64 = 65536;
+
+// The first row's first word.
+const ROWS: usize = 7;
+
+// An initial address that marks an entry as void.
+const ALL_ONES: u64 = 0xffff_ffff_ffff_ffff;
+
+// 64 bits from here on are negative.
+const SIGN: u64 = 0x8000_0000_0000_0000;
 
 // A register's rule in a row; the value is 0 where the kind uses none.
 pub struct RegisterRule {
@@ -82,17 +104,17 @@ fn word64(body: &[u32], i: usize) -> u64
 {
     let low = word(body, i);
     let high = word(body, i + 1);
-    (low as u64) + (high as u64) * 4294967296
+    (low as u64) + (high as u64) * 0x1_0000_0000
 }
 
 // 64 bits in two's complement.
 fn signed_of(w: u64) -> i64
     ensures { λ r. ⌜ r ≡ twos w ⌝ }
 {
-    if w < 9223372036854775808 {
+    if w < SIGN {
         w as i64
     } else {
-        (-1) - ((18446744073709551615 - w) as i64)
+        (-1) - ((ALL_ONES - w) as i64)
     }
 }
 
@@ -325,7 +347,7 @@ fn no_form() -> Formed
 fn value_form(family: u32, value: u64) -> Formed
     ensures { λ r. ⌜ formed r ≡ nameForm (cfiName family value) ⌝ }
 {
-    if value < 65536 {
+    if value < REGISTER_VALUES {
         return register_form(family, value as u32);
     }
     no_form()
@@ -543,7 +565,7 @@ fn put_default(out: &mut [u8], at: usize, fde: Fde, start: u64, moved: bool) -> 
     at
 }
 
-// The line of the row at a, whose rules are compared with `state`; `scan` says what comes of it.
+// The line of the row at a, what it says compared with `state`: `written` says that there is one, `moved` that the return register's rule changed.
 fn put_line(
     out: &mut [u8],
     at: usize,
@@ -621,7 +643,7 @@ fn put_rows(out: &mut [u8], at: usize, body: &[u32], fde: Fde) -> usize
 {
     let mut p = at;
     let mut state = start_state();
-    let mut a: usize = 7;
+    let mut a: usize = ROWS;
     let mut m = word(body, 6) as usize;
     while 0 < m {
         let placed = put_row(out, p, body, a, fde, state);
@@ -639,7 +661,7 @@ fn last_end(body: &[u32]) -> u64
     ensures { λ r. ⌜ r ≡ lastEnd 0 (rows (now (body .entry))) ⌝ }
 {
     let mut end: u64 = 0;
-    let mut a: usize = 7;
+    let mut a: usize = ROWS;
     let mut m = word(body, 6) as usize;
     while 0 < m {
         end = word64(body, a + 2);
@@ -654,7 +676,7 @@ fn any_below(body: &[u32], first: u64, load: u64) -> bool
     requires { ⌜ T (dwarfLayout (now body)) ⌝ }
     ensures { λ r. ⌜ r ≡ anyBelow first load (rows (now (body .entry))) ⌝ }
 {
-    let mut a: usize = 7;
+    let mut a: usize = ROWS;
     let mut m = word(body, 6) as usize;
     while 0 < m {
         let start = word64(body, a);
@@ -673,7 +695,7 @@ fn first_start(body: &[u32]) -> u64
     if word(body, 6) == 0 {
         return 0;
     }
-    word64(body, 7)
+    word64(body, ROWS)
 }
 
 fn fde_of(body: &[u32]) -> Fde
@@ -700,7 +722,7 @@ fn kind_fits(kind: u32, value: u64) -> bool
     ensures { λ r. ⌜ r ≡ cond (eqb kind 3) (ltb value 65536) (leb kind 4) ⌝ }
 {
     if kind == 3 {
-        return value < 65536;
+        return value < REGISTER_VALUES;
     }
     kind <= 4
 }
@@ -797,7 +819,7 @@ fn rows_fit(body: &[u32]) -> bool
     requires { ⌜ getD (now body) 6 0 ≤ 1024 ⌝ }
     ensures { λ r. ⌜ r ≡ rowsFit (now (body .entry)) (getD (now (body .entry)) 6 0) 7 ⌝ }
 {
-    let mut a: usize = 7;
+    let mut a: usize = ROWS;
     let mut m = word(body, 6) as usize;
     while 0 < m {
         if !row_fits(body, a) {
@@ -847,7 +869,7 @@ fn registers_fit(body: &[u32]) -> bool
     ensures { λ r. ⌜ r ≡ leb (distinct [] (registers (rulesOf (rows (now (body .entry)))))) 64 ⌝ }
 {
     let mut rules = RuleCache::start();
-    let mut a: usize = 7;
+    let mut a: usize = ROWS;
     let mut m = word(body, 6) as usize;
     while 0 < m {
         let n = word(body, a + 8) as usize;
@@ -892,7 +914,7 @@ fn layout(body: &[u32]) -> bool
 fn skipped(body: &[u32]) -> bool
     ensures { λ r. ⌜ r ≡ dwarfSkipped (now (body .entry)) ⌝ }
 {
-    if word64(body, 1) == 0xffff_ffff_ffff_ffff {
+    if word64(body, 1) == ALL_ONES {
         return true;
     }
     if word(body, 6) == 0 {
