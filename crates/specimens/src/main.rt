@@ -547,6 +547,79 @@ fn chains() {
     limits(b"32 infos", b"1 1 4 100 4096 4160 20480 32 0 0 0 31*");
 }
 
+// ---- the other kinds
+
+// Totals and addresses at their ends, the last register of a pair, and 1,024 operations.
+fn arm64() {
+    show(
+        b"arm64 total 2^31 - 1",
+        b"2 1 4 7 4096 64 1 1 0 0 2147483647 ",
+    );
+    show(b"arm64 total 2^31", b"2 1 4 7 4096 64 1 1 0 0 2147483648 ");
+    show(
+        b"arm64 total by a save",
+        b"2 1 4 11 0 64 2 3 0 1 1 1 0 0 2147483646 ",
+    );
+    show(b"arm64 pair 254", b"2 1 4 7 0 64 1 4 2 254 0 ");
+    show(b"arm64 pair 255", b"2 1 4 7 0 64 1 4 2 255 0 ");
+    show(
+        b"arm64 last address",
+        b"2 1 4 11 4294967291 64 2 8 0 0 0 8 0 0 0 ",
+    );
+    show(
+        b"arm64 beyond it",
+        b"2 1 4 11 4294967292 64 2 8 0 0 0 8 0 0 0 ",
+    );
+    show(
+        b"arm64 behind the end",
+        b"2 1 4 11 0 64 2 9 0 0 0 10 0 0 0 ",
+    );
+    show(b"arm64 undecodable", b"2 1 4 11 0 64 2 10 0 0 0 9 0 0 0 ");
+    show(b"arm64 register 256", b"2 1 4 7 0 64 1 2 0 256 0 ");
+}
+
+// Offsets at both ends of signed 64 bits, a row below load, and a return to an old rule.
+fn dwarf() {
+    show(
+        b"dwarf offsets",
+        b"3 1 4 24 2 16 0 0 0 16 1 16 0 32 0 0 7 4294967295 2147483647 2 3 1 0 2147483648 16 2 8 0 ",
+    );
+    show(
+        b"dwarf return to a rule",
+        b"3 1 4 46 4 0 0 0 0 30 3 0 0 4 0 0 31 0 0 1 19 0 0 0 4 0 8 0 1 0 0 0 1 19 4 0 0 8 0 12 0 1 0 0 0 1 19 0 0 0 ",
+    );
+    show(b"dwarf no rows", b"3 1 4 7 2 0 0 0 0 16 0 ");
+    show(b"dwarf family 11", b"3 1 4 7 11 0 0 0 0 16 0 ");
+    show(
+        b"dwarf below load",
+        b"3 1 4 25 2 0 0 8 0 16 2 8 0 9 0 0 7 8 0 0 7 0 9 0 1 0 0 0 0 ",
+    );
+}
+
+// Code sizes around 2^31, and an entry repeated behind one that is skipped.
+fn pdb() {
+    show(
+        b"pdb code size 2^31 - 1",
+        b"4 1 4 17 1 4096 2147483647 0 0 0 0 0 0 0 0 0 0 1 0 4096 4128 ",
+    );
+    show(
+        b"pdb code size 2^31",
+        b"4 1 4 17 1 4096 2147483648 0 0 0 0 0 0 0 0 0 0 1 0 4096 4128 ",
+    );
+    show(
+        b"pdb repeat",
+        b"4 3 8 17 25 15 40 17 1 4096 32 0 0 0 0 0 0 1 0 0 0 1 0 4096 4128 1 4096 2147483648 0 0 0 0 0 0 0 0 0 0 0 0 1 4096 32 0 0 0 0 0 0 1 0 0 0 1 0 4096 4128 ",
+    );
+    show(
+        b"pdb one line",
+        b"4 1 4 23 4 4096 64 5 8 4 16 1 32 0 1 1 1 1 4 4096 4101 4101 4160 32 36 65 32 ",
+    );
+    show(
+        b"pdb code start and size",
+        b"4 1 4 15 1 4294967295 1 0 0 0 0 0 0 0 0 0 0 0 0 ",
+    );
+}
+
 fn main() {
     totals();
     values();
@@ -560,4 +633,7 @@ fn main() {
     contents();
     bodies();
     chains();
+    arm64();
+    dwarf();
+    pdb();
 }
