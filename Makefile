@@ -2,10 +2,11 @@
 RUST_SRC ?= ../shared/docs/src
 export RUST_SRC
 
-.PHONY: help run test lib fuzz bench prove must-fail fmt clean
+.PHONY: help run compare test lib fuzz bench prove must-fail fmt clean
 
 help:
 	@echo 'make run BOOK=file        print the STACK lines of a book, as specimens/first.book'
+	@echo 'make compare A=file B=file   say whether two books have the same records'
 	@echo 'make test                 everything: the proofs, the must-fail edits, the programs, the tests beside them'
 	@echo 'make lib                  the archive to link from C, target/staticlib/libtranslate.a; its header is bindings/c/stacklines.h'
 	@echo 'make fuzz [SEED=] [N=]    the archive against the model and the Rust on N books, from a fresh seed unless one is given'
@@ -23,6 +24,13 @@ run:
 	@test -f target/bin/stacklines || echo 'proving stacklines first; that takes minutes' >&2
 	@rt check stacklines >target/run.log 2>&1 || { cat target/run.log >&2; exit 1; }
 	@target/bin/stacklines <'$(BOOK)'
+
+compare:
+	@test -f '$(A)' && test -f '$(B)' || { echo 'make compare A=file B=file' >&2; exit 2; }
+	@mkdir -p target
+	@test -f target/bin/compare || echo 'proving compare first; that takes minutes' >&2
+	@rt check compare >target/compare.log 2>&1 || { cat target/compare.log >&2; exit 1; }
+	@target/bin/compare '$(A)' '$(B)'
 
 test:
 	@sh tests/run
