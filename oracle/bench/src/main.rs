@@ -1,17 +1,21 @@
 //! The port beside the unchanged Rust on realistic books: `bench` prints the tables of docs/BENCHMARKS.md,
-//! `bench port KIND TIMES` and `bench rust KIND TIMES` run one side alone, for a profiler.
+//! `bench port KIND TIMES` and `bench rust KIND TIMES` run one side alone, for a profiler;
+//! `bench size KIND` prints the words and the bytes of text of the books that they run.
 
 mod clock;
 mod realistic;
 mod sides;
 mod stack;
 
-use model::ALL_KINDS;
+use model::rng::Rng;
+use model::{gen, ALL_KINDS};
+use rust::{prepare, Prepared};
 use sides::{text_room, Both, Port};
 
 const NAMES: [&str; 4] = ["x64", "ARM64", "DWARF", "PDB"];
 const BOOKS: usize = 8;
-const ROUNDS: usize = 40;
+const ROUNDS: usize = 60;
+const RANDOM_BOOKS: usize = 1000;
 
 /// Entries of the books that grow.
 const COUNTS: [usize; 6] = [1, 4, 16, 64, 256, 1024];
@@ -20,8 +24,9 @@ fn main() {
     let words: Vec<String> = std::env::args().collect();
     match &words[1..] {
         [] => tables(),
+        [size, kind] if size == "size" => print_size(kind.parse().expect("KIND")),
         [side, kind, times] => alone(side, kind.parse().expect("KIND"), times.parse().expect("TIMES")),
-        _ => panic!("bench, or bench port|rust KIND TIMES"),
+        _ => panic!("bench, or bench port|rust KIND TIMES, or bench size KIND"),
     }
 }
 
@@ -44,12 +49,12 @@ fn tables() {
     println!();
     growth(&mut port, &mut text);
     println!();
-    stack_taken(&kinds, &mut port);
+    stack_taken(&mut port);
 }
 
 fn full_books(kinds: &[Vec<Both>]) {
-    println!("{BOOKS} full books of each kind, the least of {ROUNDS} times:\n");
-    println!("| kind | entries | words | bytes of text | port, ns a word | Rust, ns a word | port, ns a byte | Rust, ns a byte | times faster |");
+    println!("{BOOKS} full books of each kind, the least of {ROUNDS} times; the last column is the Rust's time over the port's:\n");
+    println!("| kind | entries | words | bytes of text | port, ns/word | Rust, ns/word | port, ns/byte | Rust, ns/byte | times faster |");
     println!("|---|--:|--:|--:|--:|--:|--:|--:|--:|");
     for books in kinds {
         let sum = |of: fn(&Both) -> f64| books.iter().map(of).sum::<f64>();
@@ -68,10 +73,10 @@ fn full_books(kinds: &[Vec<Both>]) {
 }
 
 fn growth(port: &mut Port, text: &mut Vec<u8>) {
-    println!("Books of the shortest function, ns an entry; 1,024 stands for as many as fit:\n");
-    let heads: Vec<String> = COUNTS.iter().map(|n| format!("{n}")).collect();
-    println!("| kind | side | {} | most that fit |", heads.join(" | "));
-    println!("|---|---|{}--:|", "--:|".repeat(COUNTS.len()));
+    let heads: Vec<String> = COUNTS[..COUNTS.len() - 1].iter().map(usize::to_string).collect();
+    println!("Books of so many short functions, ns an entry; the last as many as fit, at most 1,024:\n");
+    println!("| kind | side | {} | as many as fit |", heads.join(" | "));
+    println!("|---|---|{}", "--:|".repeat(COUNTS.len()));
     for &kind in ALL_KINDS {
         let mut books: Vec<Both> =
             COUNTS.iter().map(|n| Both::new(realistic::uniform_book(kind, *n), port, text)).collect();
@@ -85,10 +90,10 @@ fn growth(port: &mut Port, text: &mut Vec<u8>) {
             let each: Vec<String> = books.iter().map(|b| format!("{:.0}", of(b) / b.entries() as f64)).collect();
             each.join(" | ")
         };
-        println!("| {} | port | {} | {most} |", name(kind), row(|b| b.port));
-        println!("| {} | Rust | {} | {most} |", name(kind), row(|b| b.rust));
+        println!("| {} | port | {} ({most}) |", name(kind), row(|b| b.port));
+        println!("| {} | Rust | {} ({most}) |", name(kind), row(|b| b.rust));
     }
-    println!("\nA book without entries, ns a call: port {:.0}", empty_call(port));
+    println!("\nA call with a book without entries: {:.0} ns.", empty_call(port));
 }
 
 /// What a call costs beside its entries, most of it the clearing of the work area.
@@ -97,27 +102,39 @@ fn empty_call(port: &mut Port) -> f64 {
     (0..ROUNDS).map(|_| clock::of_each(256, || assert_eq!(port.translate(&book), 0))).fold(f64::INFINITY, f64::min)
 }
 
-fn stack_taken(kinds: &[Vec<Both>], port: &mut Port) {
-    println!("Bytes of stack that a call takes, the most over the full books:\n");
+/// Over the full books, and over books of the generator of the comparisons, which go to the limits.
+fn stack_taken(port: &mut Port) {
+    println!("Bytes of stack that a call changes, the most over the full books and {RANDOM_BOOKS} random ones:\n");
     println!("| {} |", NAMES.join(" | "));
     println!("|{}", "--:|".repeat(NAMES.len()));
-    let most = |books: &Vec<Both>| books.iter().map(|b| stack::depth(|| assert_eq!(port.translate(&b.book), 0))).max();
-    let depths: Vec<String> = kinds.iter().map(most).map(|d| d.unwrap_or(0).to_string()).collect();
+    let mut depths = Vec::new();
+    for &kind in ALL_KINDS {
+        let mut rng = Rng::new(9);
+        let random = (0..RANDOM_BOOKS).map(|_| gen::book(&mut rng, kind));
+        let books = (0..BOOKS).map(|turn| realistic::book(kind, turn)).chain(random);
+        let most = books.map(|book| stack::depth(|| _ = port.translate(&book))).max();
+        depths.push(most.unwrap_or(0).to_string());
+    }
     println!("| {} |", depths.join(" | "));
 }
 
-fn alone(side: &str, kind: u32, times: usize) {
+fn print_size(kind: u32) {
     let (mut port, mut text) = (Port::new(), text_room());
     let books: Vec<Both> = (0..BOOKS).map(|turn| Both::new(realistic::book(kind, turn), &mut port, &mut text)).collect();
-    for _ in 0..times {
-        for book in &books {
-            match side {
-                "port" => assert_eq!(port.translate(&book.book), 0),
-                _ => book.run_rust(&mut text),
-            }
+    let (words, bytes) = books.iter().fold((0, 0), |(w, b), both| (w + both.book.len(), b + both.bytes));
+    println!("{words} {bytes}");
+}
+
+/// One side `times` over the full books of a kind, and nothing else of it.
+fn alone(side: &str, kind: u32, times: usize) {
+    let books: Vec<Vec<u32>> = (0..BOOKS).map(|turn| realistic::book(kind, turn)).collect();
+    let (mut port, mut text) = (Port::new(), text_room());
+    match side {
+        "port" => books.iter().cycle().take(times * BOOKS).for_each(|book| assert_eq!(port.translate(book), 0)),
+        "rust" => {
+            let objects: Vec<Prepared> = books.iter().map(|book| prepare(book)).collect();
+            objects.iter().cycle().take(times * BOOKS).for_each(|object| object.translate(&mut text));
         }
+        _ => panic!("port or rust"),
     }
-    let words: usize = books.iter().map(|b| b.book.len()).sum();
-    let bytes: usize = books.iter().map(|b| b.bytes).sum();
-    println!("{words} words, {bytes} bytes of text");
 }

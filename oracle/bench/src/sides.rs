@@ -63,11 +63,6 @@ impl Both {
         self.rust = self.rust.min(clock::of_each(times, || object.translate(text)));
         assert!(number == 0);
     }
-
-    /// The Rust alone.
-    pub fn run_rust(&self, text: &mut Vec<u8>) {
-        self.object.translate(text);
-    }
 }
 
 pub fn text_room() -> Vec<u8> {

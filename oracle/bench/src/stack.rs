@@ -1,6 +1,7 @@
 //! How much stack a call takes: it runs on a stack of its own that is painted first, and the lowest byte that changed tells.
+//! Counted with it are some hundred bytes of what calls it.
 
-const SIZE: usize = 1 << 20;
+const SIZE: usize = 1 << 17;
 const PAINT: u8 = 0xa5;
 
 /// The bytes of stack that `call` changed.
