@@ -1,6 +1,6 @@
 //! The port beside the unchanged Rust on realistic books: `bench` prints the tables of docs/BENCHMARKS.md,
 //! `bench port KIND TIMES` and `bench rust KIND TIMES` run one side alone, for a profiler;
-//! `bench size KIND` prints the words and the bytes of text of the books that they run.
+//! `bench size KIND` prints the words and the bytes of text of the books that they run, `bench text KIND` the text.
 
 mod clock;
 mod realistic;
@@ -25,8 +25,9 @@ fn main() {
     match &words[1..] {
         [] => tables(),
         [size, kind] if size == "size" => print_size(kind.parse().expect("KIND")),
+        [text, kind] if text == "text" => print_text(kind.parse().expect("KIND")),
         [side, kind, times] => alone(side, kind.parse().expect("KIND"), times.parse().expect("TIMES")),
-        _ => panic!("bench, or bench port|rust KIND TIMES, or bench size KIND"),
+        _ => panic!("bench, or bench port|rust KIND TIMES, or bench size|text KIND"),
     }
 }
 
@@ -123,6 +124,14 @@ fn print_size(kind: u32) {
     let books: Vec<Both> = (0..BOOKS).map(|turn| Both::new(realistic::book(kind, turn), &mut port, &mut text)).collect();
     let (words, bytes) = books.iter().fold((0, 0), |(w, b), both| (w + both.book.len(), b + both.bytes));
     println!("{words} {bytes}");
+}
+
+fn print_text(kind: u32) {
+    let mut text = text_room();
+    for turn in 0..BOOKS {
+        prepare(&realistic::book(kind, turn)).translate(&mut text);
+        print!("{}", String::from_utf8_lossy(&text));
+    }
 }
 
 /// One side `times` over the full books of a kind, and nothing else of it.

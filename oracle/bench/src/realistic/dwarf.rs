@@ -25,7 +25,7 @@ pub const MACHINES: [Machine; 3] = [
         stack: 7,
         frame: 6,
         word: 8,
-        saved: &[6, 15, 14, 13, 12, 3],
+        saved: &[15, 14, 13, 12, 6, 3],
     },
     Machine {
         family: 4,
@@ -70,9 +70,14 @@ impl Rows {
         Rows { machine, place, at: 0, rows: vec![(0, cfa, rules)] }
     }
 
+    /// Goes on to the epilogue, so many bytes before the end.
+    fn epilogue(&mut self, bytes: u32) {
+        self.at = self.place.size - bytes;
+    }
+
     /// A row some bytes further on: the CFA, and rules beside those that hold.
     fn row(&mut self, bytes: u32, cfa: Cfa, more: &[Below]) {
-        self.at = (self.at + bytes).min(self.place.size - 1);
+        self.at += bytes;
         let mut rules = self.rows.last().map_or(vec![], |row| row.2.clone());
         rules.extend(more);
         self.rows.push((self.at, cfa, rules));
@@ -115,7 +120,8 @@ pub fn body(rng: &mut Rng, place: Place, machine: Machine) -> Vec<u32> {
 fn allocating(rows: &mut Rows, rng: &mut Rng) {
     let (stack, word) = (rows.machine.stack, rows.rows[0].1 .1);
     rows.row(4, (stack, word + 16 * rng.from_to(1, 8)), &[]);
-    rows.row(rng.from_to(8, 60), (stack, word), &[]);
+    rows.epilogue(if rows.machine.family == 4 { 4 } else { 1 });
+    rows.row(0, (stack, word), &[]);
 }
 
 /// push rbp; mov rbp, rsp; perhaps pushes; leave
@@ -123,12 +129,13 @@ fn frame_pointer(rows: &mut Rows, rng: &mut Rng) {
     let Machine { stack, frame, word, saved, .. } = rows.machine;
     rows.row(1, (stack, 2 * word), &[(frame, 2 * word)]);
     rows.row(3, (frame, 2 * word), &[]);
-    let pushed = rng.below(saved.len() as u32);
-    if pushed > 0 {
-        let rules: Vec<Below> = (0..pushed).map(|i| (saved[1 + i as usize], (3 + i) * word)).collect();
-        rows.row(2 * pushed, (frame, 2 * word), &rules);
+    let pushed = saved.iter().filter(|r| **r != frame).take(rng.index(saved.len()));
+    let rules: Vec<Below> = (3..).zip(pushed).map(|(i, r)| (*r, i * word)).collect();
+    if !rules.is_empty() {
+        rows.row(2 * rules.len() as u32, (frame, 2 * word), &rules);
     }
-    rows.row(rng.from_to(8, 200), (stack, word), &[]);
+    rows.epilogue(1);
+    rows.row(0, (stack, word), &[]);
 }
 
 /// A row for each push and for each pop, the frame pointer one of the pushed registers.
@@ -143,8 +150,10 @@ fn pushing(rows: &mut Rows, rng: &mut Rng) {
     let room = 16 * rng.below(12);
     if room > 0 {
         rows.row(4, (stack, offset + room), &[]);
-        rows.row(rng.from_to(8, 200), (stack, offset), &[]);
+        rows.epilogue(2 * pushes + 1);
+        rows.row(0, (stack, offset), &[]);
     }
+    rows.epilogue(2 * pushes + 1);
     for _ in 0..pushes {
         offset -= word;
         rows.row(2, (stack, offset), &[]);
@@ -162,7 +171,8 @@ fn stored_pairs(rows: &mut Rows, rng: &mut Rng) {
         let rules = [(saved[at], size - 16 - 16 * i), (saved[at + 1], size - 24 - 16 * i)];
         rows.row(4, (stack, size), &rules);
     }
-    rows.row(rng.from_to(8, 200), (stack, 0), &[]);
+    rows.epilogue(4);
+    rows.row(0, (stack, 0), &[]);
     // The registers are restored: no rule holds any more.
     if let Some(last) = rows.rows.last_mut() {
         last.2.clear();

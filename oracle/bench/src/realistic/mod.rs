@@ -25,7 +25,7 @@ struct Layout {
 
 impl Layout {
     fn place(&mut self, rng: &mut Rng) -> Place {
-        let size = 4 * if rng.one_in(8) { rng.from_to(50, 500) } else { rng.from_to(4, 75) };
+        let size = 4 * if rng.one_in(8) { rng.from_to(50, 500) } else { rng.from_to(12, 75) };
         let start = self.next;
         self.next = (start + size).next_multiple_of(16);
         Place { start, size }

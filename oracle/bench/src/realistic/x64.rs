@@ -69,13 +69,14 @@ fn home_space(rng: &mut Rng) -> Info {
     Info(0, 0, operations)
 }
 
-/// push rbp; push rsi; push rdi; push r12 ..; sub rsp, size
+/// mov [rsp+8], rbx; push rbp; push rsi; push rdi; push r14 ..; sub rsp, size
 fn pushes(rng: &mut Rng) -> Info {
     let registers = [RBP, RSI, RDI, 14, 15, 12, 13];
     let count = rng.from_to(3, 5) as usize;
     let mut operations: Vec<Operation> = registers[..count].iter().map(|r| push(*r)).collect();
-    operations.push(allocate(0x20 + 16 * rng.below(20)));
-    operations.push(save_rsp(RBX, 0x100));
+    let size = 0x20 + 16 * rng.below(20);
+    operations.push(allocate(size));
+    operations.push(save_rsp(RBX, size + 8 * count as u32 + 8));
     Info(0, 0, operations)
 }
 
