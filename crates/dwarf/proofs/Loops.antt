@@ -18,7 +18,8 @@ use Rattle.dwarf.specs.declared.Met.{Met}
 use Rattle.dwarf.specs.declared.RowState.{RowState}
 use Rattle.dwarf.specs.declared.Fde.{Fde}
 use Rattle.dwarf.specs.Dwarf.{word, wide, ruleAt, rulesFrom, ruleCount, nextRow, rowAt, rowsFrom, rowCount, rows, lastEnd, anyBelow, registers, distinct, rulesOf, member, once, rowFits, rowsFit, dwarfLayout, Seen, differs, remember, ruleRules, seenAfter, ranRules, ranMoved, ranRow, ranRows, CfaSeen, noCfa, lastCfa, nothingSeen}
-use Rattle.dwarf.specs.Cache.{lookup, newly, fresh, any, cfaOf, Known, Scanned, After}
+use Rattle.dwarf.proofs.Store.{newly-few}
+use Rattle.dwarf.specs.Cache.{placeOf, lookup, newly, fresh, any, cfaOf, Known, Scanned, After}
 use Rattle.dwarf.specs.Index.{rules-step, rows-step, rows-fit-step, row-few, row-bound, layout-few, layout-rows, layout-distinct, fresh-append, fresh-distinct}
 
 -- ---- over rows: m are left, from word a on
@@ -94,6 +95,10 @@ module _ {ws : List ℕ} {c₀ : RuleCache} {from n : ℕ} {c : RuleCache} {a k 
   pub rules-room : {x : RegisterRule} → RulesLeft ws c₀ from n c a k → 0 < k → x ≡ ruleAt ws a
       → c₀ .count + fresh (lookup c₀) (rulesFrom ws n from) ≤ 64 → c .count + newly (lookup c (x .register)) ≤ 64
   rules-room {x} l h i e = rw i (omega (arith, next-counts l h))
+
+  pub rules-place : {x : RegisterRule} {q : ℕ} → RulesLeft ws c₀ from n c a k → 0 < k → x ≡ ruleAt ws a
+      → c₀ .count + fresh (lookup c₀) (rulesFrom ws n from) ≤ 64 → length (c .register) ≡ 64 → q ≡ placeOf c (x .register) → q < 64
+  rules-place {x} l h i e lr f = omega (arith, newly-few c (x .register) (omega (arith, l .few)) (rules-room l h i e))
 
   turn-at : {c₁ : RuleCache} → RulesLeft ws c₀ from n c a k → 0 < k → c .count + newly (lookup c (ruleAt ws a .register)) ≤ 64
       → c₁ .count ≡ c .count + newly (lookup c (ruleAt ws a .register)) → lookup c₁ ≡ remember (lookup c) (ruleAt ws a)

@@ -1,17 +1,17 @@
 -- What a store does to the rules last seen.
 use mathlib.Core.List.{List, [], _∷_, _++_}
-use mathlib.Core.Path.{_≡_, refl, ap, sym, _∙_}
-use mathlib.Core.Bool.{Bool, true, false, cond}
+use mathlib.Core.Path.{_≡_, refl, ap, sym, _∙_, fun-ext}
+use mathlib.Core.Bool.{Bool, true, false, not, cond, _&&_}
 use Prim.Native.Nat.{ℕ, _+_, _≤_, _<_}
 use native.Mathlib.Numerals.{add-one}
 use native.Mathlib.Omega.{arith}
 use lib.ListN.{length, take, getD, set}
-use lib.Seq.{length-take-le, getD-set-same, getD-set-other, take-suc-set}
+use lib.Seq.{length-take-le, getD-take, set-getD, getD-set-same, getD-set-other, take-suc-set}
 use lib.Dec.{eqb, ltb, leb}
-use borrow.Author.Tests.{eq-eqb, ne-eqb, eqb-true, eqb-false, lt-ltb, le-ltb, ltb-true, ltb-false, le-leb, lt-leb}
+use borrow.Author.Tests.{eq-eqb, ne-eqb, eqb-true, eqb-false, lt-ltb, le-ltb, ltb-true, ltb-false, le-leb, lt-leb, leb-true}
 use Rattle.dwarf.specs.declared.RuleCache.{RuleCache}
-use Rattle.dwarf.specs.Dwarf.{Seen, never, seen, differs}
-use Rattle.dwarf.specs.Cache.{firstIn, placeOf, lookup, newly}
+use Rattle.dwarf.specs.Dwarf.{Seen, never, seen, differs, remembered}
+use Rattle.dwarf.specs.Cache.{firstIn, placeOf, lookup, newly, behind}
 use Rattle.dwarf.proofs.Places.{first-le, first-holds, first-front, first-tail}
 
 pub seen-at : (c : RuleCache) (r p : ℕ) → placeOf c r ≡ p → p < c .count → lookup c r ≡ seen (getD (c .kind) p 0) (getD (c .value) p 0)
@@ -156,3 +156,57 @@ newly-few c r fits h = go (ltb (placeOf c r) (c .count)) refl
     go : (b : Bool) → ltb (placeOf c r) (c .count) ≡ b → placeOf c r < 64
     go true e = omega (arith, ltb-true (placeOf c r) (c .count) e)
     go false e = omega (arith, newly-not c r (ltb-false (placeOf c r) (c .count) e), place-le c r fits)
+
+-- room for a register, by its place
+pub room-of : (c : RuleCache) (r : ℕ) {q : ℕ} → c .count ≤ length (c .register) → c .count ≤ 64 → q ≡ placeOf c r → q < 64 → c .count + newly (lookup c r) ≤ 64
+room-of c r fits few e h = leb-true (c .count + newly (lookup c r)) 64 (sym (newly-place c r fits few) ∙ lt-ltb (placeOf c r) 64 (omega arith))
+
+pub no-room : (c : RuleCache) (r : ℕ) {q : ℕ} → c .count ≤ length (c .register) → c .count ≤ 64 → q ≡ placeOf c r → 64 ≤ q → leb (c .count + newly (lookup c r)) 64 ≡ false
+no-room c r fits few e h = sym (newly-place c r fits few) ∙ le-ltb (placeOf c r) 64 (omega arith)
+
+-- ---- a rule stored at its register's place, with the count behind it
+
+module _ (c : RuleCache) (r k v : ℕ) (lr : length (c .register) ≡ 64) (lk : length (c .kind) ≡ 64) (lv : length (c .value) ≡ 64) (room : c .count + newly (lookup c r) ≤ 64) where
+  -- what stands at the place of a register that is there is the register
+  holds : placeOf c r < c .count → set (c .register) (placeOf c r) r ≡ c .register
+  holds h =
+      let long : length (take (c .count) (c .register)) ≡ c .count = length-take-le (c .count) (c .register) (omega arith) in
+      let e : getD (c .register) (placeOf c r) 0 ≡ r = sym (getD-take (c .count) (c .register) (placeOf c r) 0 h) ∙ first-holds (take (c .count) (c .register)) r (omega arith) in
+      ap (set (c .register) (placeOf c r)) (sym e) ∙ set-getD (c .register) (placeOf c r) 0
+
+  counts : (b : Bool) → ltb (placeOf c r) (c .count) ≡ b → behind (c .count) (placeOf c r) ≡ c .count + newly (lookup c r)
+  counts true e =
+      let l : placeOf c r < c .count = ltb-true (placeOf c r) (c .count) e in
+      rw (newly-at c r l, ne-eqb (placeOf c r) (c .count) (λ z. omega arith)) (omega arith)
+  counts false e =
+      let l : c .count ≤ placeOf c r = ltb-false (placeOf c r) (c .count) e in
+      rw (newly-not c r l, eq-eqb (placeOf c r) (c .count) (omega (arith, place-le c r (omega arith)))) (omega arith)
+
+  pub stored-counts : {q m : ℕ} → q ≡ placeOf c r → m ≡ behind (c .count) q → m ≡ c .count + newly (lookup c r)
+  stored-counts e f = f ∙ ap (behind (c .count)) e ∙ counts (ltb (placeOf c r) (c .count)) refl
+
+  abbrev stored : ℕ → ℕ → RuleCache
+  stored q m = record { register = set (c .register) q r; kind = set (c .kind) q k; value = set (c .value) q v; count = m }
+
+  sees : (b : Bool) → ltb (placeOf c r) (c .count) ≡ b → lookup (stored (placeOf c r) (behind (c .count) (placeOf c r))) ≡ remembered (lookup c) r k v
+  sees true e =
+      let l : placeOf c r < c .count = ltb-true (placeOf c r) (c .count) e in
+      rw (holds l, ne-eqb (placeOf c r) (c .count) (λ z. omega arith)) (fun-ext (replaced c r k v (omega arith) (omega arith) (omega arith) l))
+  sees false e =
+      let l : c .count ≤ placeOf c r = ltb-false (placeOf c r) (c .count) e in
+      let z : placeOf c r ≡ c .count = omega (arith, place-le c r (omega arith)) in
+      let w : c .count < 64 = omega (arith, newly-not c r l) in
+      rw (z, eq-eqb (c .count) (c .count) refl) (fun-ext (appended c r k v (omega arith) (omega arith) (omega arith) z))
+
+  pub stored-sees : {q m : ℕ} → q ≡ placeOf c r → m ≡ behind (c .count) q → lookup (stored q m) ≡ remembered (lookup c) r k v
+  stored-sees e f = rw (f, e) (sees (ltb (placeOf c r) (c .count)) refl)
+
+  changes : (b : Bool) → ltb (placeOf c r) (c .count) ≡ b
+      → not (b && (eqb (getD (c .kind) (placeOf c r) 0) k && eqb (getD (c .value) (placeOf c r) 0) v)) ≡ differs (lookup c r) k v
+  changes true e = differs-at c r k v (ltb-true (placeOf c r) (c .count) e) _ refl
+  changes false e = differs-new c r k v (ltb-false (placeOf c r) (c .count) e)
+
+  -- what the code compares is whether the rule differs
+  pub change-is : {q : ℕ} {same known : Bool} → q ≡ placeOf c r → same ≡ (eqb (getD (c .kind) q 0) k && eqb (getD (c .value) q 0) v) → known ≡ (ltb q (c .count) && same)
+      → not known ≡ differs (lookup c r) k v
+  change-is e f g = rw (g, f, e) (changes (ltb (placeOf c r) (c .count)) refl)

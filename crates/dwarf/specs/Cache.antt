@@ -25,6 +25,10 @@ firstIn (x ∷ l) q = cond (eqb x q) 0 (suc (firstIn l q))
 abbrev pub placeOf : RuleCache → ℕ → ℕ
 placeOf c q = firstIn (take (c .count) (c .register)) q
 
+-- how many there are once place p of n is taken
+abbrev pub behind : ℕ → ℕ → ℕ
+behind n p = cond (eqb p n) (n + 1) n
+
 -- the rule last seen of a register
 unfoldable pub lookup : RuleCache → ℕ → Seen
 lookup c q = cond (ltb (placeOf c q) (c .count)) (seen (getD (c .kind) (placeOf c q) 0) (getD (c .value) (placeOf c q) 0)) never

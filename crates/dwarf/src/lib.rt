@@ -35,14 +35,14 @@ ghost use mathlib.Core.Path.{_≡_};
 ghost use mathlib.Core.Bool.{cond, true, false, _&&_, _||_};
 ghost use mathlib.Core.List.{[], _++_};
 ghost use Prim.Native.Nat.{_+_, _-_, _*_, _^_, _<_, _≤_};
-ghost use lib.ListN.{getD};
+ghost use lib.ListN.{getD, length, take};
 ghost use lib.Dec.{T, eqb, leb, ltb};
 ghost use Rattle.text.specs.Text.{Put};
 ghost use Rattle.names.specs.Names.{cfiName};
 ghost use Rattle.entry.specs.Entry.{Processed};
 ghost use Rattle.lines.specs.Lines.{initText, laterText, rulesText, lineText, render};
-ghost use Rattle.dwarf.specs.Dwarf.{wide, twos, usedValue, ruleAt, rulesFrom, cfaAt, rows, firstStart, lastEnd, fdeOf, registers, member, once, ruleFits, rulesFit, rowFits, rowsFit, headFits, dwarfLayout, dwarfSkipped, anyBelow, dwarfReach, dwarfJudged, nameForm, ruleForms, ruleRules, cfaRules, raRules, defaultRules, lineOf, ranRow, differs, cfaDiffers, remembered, ranRules, dwarfText, dwarfEntry, noCfa, nothingSeen, ranRows, ranOf, rulesOf, rowAt, distinct};
-ghost use Rattle.dwarf.specs.Cache.{lookup, placeOf, cfaOf, newly, fresh, formed, formatted, any, Scanned, After, Known};
+ghost use Rattle.dwarf.specs.Dwarf.{wide, twos, usedValue, ruleAt, rulesFrom, cfaAt, rows, firstStart, lastEnd, fdeOf, registers, member, once, ruleFits, rulesFit, rowFits, rowsFit, headFits, dwarfLayout, dwarfSkipped, anyBelow, dwarfReach, dwarfJudged, nameForm, ruleForms, ruleRules, cfaRules, raRules, defaultRules, lineOf, ranRow, differs, cfaDiffers, ranRules, dwarfText, dwarfEntry, noCfa, nothingSeen, ranRows, ranOf, rulesOf, rowAt, distinct};
+ghost use Rattle.dwarf.specs.Cache.{firstIn, lookup, behind, cfaOf, fresh, formed, formatted, any, Scanned, After, Known};
 
 // The registers that rules may name in a body.
 const MOST_REGISTERS: usize = 64;
@@ -204,10 +204,30 @@ pub struct RuleCache {
     pub count: usize,
 }
 
-// A rule remembered, and whether it differs from the one last seen.
-pub struct Remembered {
-    pub cache: RuleCache,
-    pub changed: bool,
+// The place of a register among the first n, or n.
+fn place(registers: &[u32], n: usize, r: u32) -> usize
+    requires { ⌜ n ≤ length (now registers) ⌝ }
+    ensures { λ p. ⌜ p ≡ firstIn (take n (now (registers .entry))) r ⌝ }
+{
+    let mut i = 0;
+    while i < n {
+        if registers[i] == r {
+            return i;
+        }
+        i += 1;
+    }
+    i
+}
+
+// How many registers there are once place p of n is taken.
+fn count_behind(n: usize, p: usize) -> usize
+    requires { ⌜ n ≤ 64 ⌝ }
+    ensures { λ r. ⌜ r ≡ behind n p ⌝ }
+{
+    if p == n {
+        return n + 1;
+    }
+    n
 }
 
 impl RuleCache {
@@ -219,64 +239,6 @@ impl RuleCache {
             kind: [0; 64],
             value: [0; 64],
             count: 0,
-        }
-    }
-
-    // The place of a register among the first count, or the count.
-    fn place(self, r: u32) -> usize
-        requires { ⌜ self .count ≤ 64 ⌝ }
-        ensures { λ p. ⌜ p ≡ placeOf self r ⌝ }
-    {
-        let n = self.count;
-        let mut i = 0;
-        while i < n {
-            if self.register[i] == r {
-                return i;
-            }
-            i += 1;
-        }
-        i
-    }
-
-    // Whether there is a place for this register.
-    fn has_room(self, r: u32) -> bool
-        requires { ⌜ self .count ≤ 64 ⌝ }
-        ensures { λ b. ⌜ b ≡ leb (self .count + newly (lookup self r)) 64 ⌝ }
-    {
-        self.place(r) < MOST_REGISTERS
-    }
-
-    fn remember(mut self, r: u32, k: u32, v: u64) -> Remembered
-        requires { ⌜ self .count + newly (lookup self r) ≤ 64 ⌝ }
-        ensures counts { λ s. ⌜ s .cache .count ≡ self .count + newly (lookup self r) ⌝ }
-        ensures remembers { λ s. ⌜ lookup (s .cache) ≡ remembered (lookup self) r k v ⌝ }
-        ensures tells { λ s. ⌜ s .changed ≡ differs (lookup self r) k v ⌝ }
-    {
-        let p = self.place(r);
-        let n = self.count;
-        if p < n {
-            if self.kind[p] == k {
-                if self.value[p] == v {
-                    return Remembered {
-                        cache: self,
-                        changed: false,
-                    };
-                }
-            }
-            self.kind[p] = k;
-            self.value[p] = v;
-            return Remembered {
-                cache: self,
-                changed: true,
-            };
-        }
-        self.register[p] = r;
-        self.kind[p] = k;
-        self.value[p] = v;
-        self.count = n + 1;
-        Remembered {
-            cache: self,
-            changed: true,
         }
     }
 }
@@ -501,11 +463,16 @@ fn scan_rules(
     let mut k = n;
     while 0 < k {
         let rule = rule_at(body, a);
-        let got = seen.remember(rule.register, rule.kind, rule.value);
-        let changed = got.changed;
+        let held = seen.count;
+        let q = place(&seen.register, held, rule.register);
+        let same = both(seen.kind[q] == rule.kind, seen.value[q] == rule.value);
+        let changed = !both(q < held, same);
+        seen.register[q] = rule.register;
+        seen.kind[q] = rule.kind;
+        seen.value[q] = rule.value;
+        seen.count = count_behind(held, q);
         written = either(written, rule_written(family, ra, rule, changed));
         moved = either(moved, both(rule.register == ra, changed));
-        seen = got.cache;
         a += 4;
         k -= 1;
     }
@@ -536,9 +503,15 @@ fn put_rules(
     let mut k = n;
     while 0 < k {
         let rule = rule_at(body, a);
-        let got = seen.remember(rule.register, rule.kind, rule.value);
-        p = write_register_rule(out, p, family, ra, rule, got.changed);
-        seen = got.cache;
+        let held = seen.count;
+        let q = place(&seen.register, held, rule.register);
+        let same = both(seen.kind[q] == rule.kind, seen.value[q] == rule.value);
+        let changed = !both(q < held, same);
+        seen.register[q] = rule.register;
+        seen.kind[q] = rule.kind;
+        seen.value[q] = rule.value;
+        seen.count = count_behind(held, q);
+        p = write_register_rule(out, p, family, ra, rule, changed);
         a += 4;
         k -= 1;
     }
@@ -846,14 +819,18 @@ fn meet_rules(body: &[u32], from: usize, n: usize, rules: RuleCache) -> Met
     let mut k = n;
     while 0 < k {
         let rule = rule_at(body, a);
-        if !seen.has_room(rule.register) {
+        let held = seen.count;
+        let q = place(&seen.register, held, rule.register);
+        if MOST_REGISTERS <= q {
             return Met {
                 rules: seen,
                 over: true,
             };
         }
-        let got = seen.remember(rule.register, rule.kind, rule.value);
-        seen = got.cache;
+        seen.register[q] = rule.register;
+        seen.kind[q] = rule.kind;
+        seen.value[q] = rule.value;
+        seen.count = count_behind(held, q);
         a += 4;
         k -= 1;
     }

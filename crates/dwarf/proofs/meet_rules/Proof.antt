@@ -1,8 +1,7 @@
 -- `meet_rules`: the loop of `RulesLeft`: no room for the next rule is no room for all.
-use Prim.Native.Nat.{_+_}
-use Rattle.dwarf.specs.Cache.{lookup, newly}
-use mathlib.Core.Path.{refl, sym, _∙_}
-use borrow.Author.Tests.{not-true, not-false, leb-true}
+use mathlib.Core.Path.{_≡_, _∙_, refl}
+use lib.ListN.{length, length-set}
+use Rattle.dwarf.proofs.Store.{room-of, no-room, stored-counts, stored-sees}
 use Rattle.dwarf.proofs.Loops.{RulesLeft, rules-all, rules-over, rules-turn, rules-known}
 use borrow.Author.Needs.{needs}
 use native.Mathlib.Omega.{arith}
@@ -10,28 +9,49 @@ use Rattle.dwarf.proofs.meet_rules.Statement.{statement}
 use Rattle.dwarf.proofs.meet_rules.Tie as tie
 
 abbrev Inv-loop : tie.InvT-loop
-Inv-loop body from n seen₀ a₀ k₀ seen a k = RulesLeft body seen₀ from n seen a k
+Inv-loop body from n seen₀ a₀ k₀ seen a k = RulesLeft body seen₀ from n seen a k × (length (seen .kind) ≡ 64) × (length (seen .value) ≡ 64)
 
 abbrev μ-loop : tie.MeasureT-loop
 μ-loop body from n seen₀ a₀ k₀ seen a k = k
 
 loop-holds : tie.Need-loop-holds Inv-loop μ-loop
-loop-holds c = rules-all (search needs)
+loop-holds c = (rules-all (search needs), search needs, search needs)
 
 rule-at-requires : tie.Need-rule-at-requires Inv-loop μ-loop
-rule-at-requires c κs = omega (arith, c .before .loop .inv .at)
+rule-at-requires c κs = omega (arith, c .before .loop .inv .0 .at)
 
-has-room-requires : tie.Need-has-room-requires Inv-loop μ-loop
-has-room-requires c κs = search needs
+place-requires : tie.Need-place-requires Inv-loop μ-loop
+place-requires c κs = search needs
 
 returns : tie.Need-returns Inv-loop μ-loop
-returns c = rules-over (c .before .before .before .before .loop .inv) (search needs) (c .before .before .rule-at .ensures) (sym (c .before .has-room .ensures) ∙ not-true (c .before .has-room .result) (c .if1 .taken)) refl
+returns c =
+    let s = c .before .before .before .before .before .before .before .loop .seen in
+    let lr : length (s .register) ≡ 64 = search needs in
+    rules-over (c .before .before .before .before .before .before .before .loop .inv .0) (search needs) (c .before .before .before .before .before .rule-at .ensures) (no-room s (c .before .before .before .before .before .rule-at .result .register) (omega arith) (omega (arith, c .before .before .before .before .before .before .before .loop .inv .0 .few)) (c .before .place .ensures) (search needs)) refl
 
-remember-requires : tie.Need-remember-requires Inv-loop μ-loop
-remember-requires c κs = leb-true (c .before .before .before .before .loop .seen .count + newly (lookup (c .before .before .before .before .loop .seen) (c .before .before .rule-at .result .register))) 64 (sym (c .before .has-room .ensures) ∙ not-false (c .before .has-room .result) (c .if1 .left))
+mul-seen : tie.Need-mul-seen Inv-loop μ-loop
+mul-seen c = search needs
+
+element-write-seen : tie.Need-element-write-seen Inv-loop μ-loop
+element-write-seen c = search needs
+
+mul-seen-2 : tie.Need-mul-seen-2 Inv-loop μ-loop
+mul-seen-2 c = search needs
+
+element-write-seen-2 : tie.Need-element-write-seen-2 Inv-loop μ-loop
+element-write-seen-2 c = search needs
+
+mul-seen-3 : tie.Need-mul-seen-3 Inv-loop μ-loop
+mul-seen-3 c = search needs
+
+element-write-seen-3 : tie.Need-element-write-seen-3 Inv-loop μ-loop
+element-write-seen-3 c = search needs
+
+count-behind-requires : tie.Need-count-behind-requires Inv-loop μ-loop
+count-behind-requires c κs = search needs
 
 add-a : tie.Need-add-a Inv-loop μ-loop
-add-a c = record { fits = omega (arith, c .before .before .before .before .before .before .loop .inv .at) }
+add-a c = record { fits = omega (arith, c .before .before .before .before .before .before .before .before .loop .inv .0 .at) }
 
 sub-k : tie.Need-sub-k Inv-loop μ-loop
 sub-k c = search needs
@@ -40,10 +60,20 @@ loop-less : tie.Need-loop-less Inv-loop μ-loop
 loop-less c = search needs
 
 loop-again : tie.Need-loop-again Inv-loop μ-loop
-loop-again c = rules-turn {c₁ = c .before .remember .result .cache} (c .before .before .before .before .before .before .loop .inv) (search needs) (c .before .before .before .before .rule-at .ensures) (leb-true (c .before .before .before .before .before .before .loop .seen .count + newly (lookup (c .before .before .before .before .before .before .loop .seen) (c .before .before .before .before .rule-at .result .register))) 64 (sym (c .before .before .before .has-room .ensures) ∙ not-false (c .before .before .before .has-room .result) (c .before .before .if1 .left))) (c .before .remember .ensures .0) (c .before .remember .ensures .1 .0)
+loop-again c =
+    let s = c .before .before .before .before .before .before .before .before .loop .seen in
+    let x = c .before .before .before .before .before .before .rule-at .result in
+    let lr : length (s .register) ≡ 64 = search needs in
+    let lk : length (s .kind) ≡ 64 = c .before .before .before .before .before .before .before .before .loop .inv .1 in
+    let lv : length (s .value) ≡ 64 = c .before .before .before .before .before .before .before .before .loop .inv .2 in
+    let room = room-of s (x .register) (omega (arith, c .before .before .before .before .before .before .before .before .loop .inv .0 .few)) (c .before .before .before .before .before .before .before .before .loop .inv .0 .few) (c .before .before .place .ensures) (omega arith) in
+    let next = rules-turn (c .before .before .before .before .before .before .before .before .loop .inv .0) (search needs) (c .before .before .before .before .before .before .rule-at .ensures) room
+    (stored-counts s (x .register) (x .kind) (x .value) lr lk lv room (c .before .before .place .ensures) (c .count-behind .ensures))
+    (stored-sees s (x .register) (x .kind) (x .value) lr lk lv room (c .before .before .place .ensures) (c .count-behind .ensures)) in
+    (next, length-set (s .kind) _ _ ∙ lk, length-set (s .value) _ _ ∙ lv)
 
 returns-2 : tie.Need-returns-2 Inv-loop μ-loop
-returns-2 c = rules-known (c .before .loop .inv) (search needs)
+returns-2 c = rules-known (c .before .loop .inv .0) (search needs)
 
 pub meet-rules-spec : {M : Type 1} → statement M
 meet-rules-spec =
@@ -53,9 +83,15 @@ meet-rules-spec =
     μ-loop
     loop-holds
     rule-at-requires
-    has-room-requires
+    place-requires
     returns
-    remember-requires
+    mul-seen
+    element-write-seen
+    mul-seen-2
+    element-write-seen-2
+    mul-seen-3
+    element-write-seen-3
+    count-behind-requires
     add-a
     sub-k
     loop-less

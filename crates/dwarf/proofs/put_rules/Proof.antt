@@ -1,36 +1,77 @@
 -- `put_rules`: the loop of `PutLeft`: what is left to remember is what is left to write.
-use mathlib.Core.Path.{ap}
+use mathlib.Core.Path.{_≡_, _∙_, ap}
 use mathlib.Core.Bool.{Bool, cond}
 use mathlib.Core.List.{[]}
+use lib.ListN.{length, length-set}
 use Rattle.text.specs.Text.Laws.{left-all, put-as, put-length}
 use Rattle.lines.specs.Lines.{rulesText}
 use Rattle.dwarf.specs.Dwarf.{ruleRules}
-use Rattle.dwarf.proofs.Loops.{PutLeft, rules-all, put-turn, put-done, rules-room}
+use Rattle.dwarf.proofs.Store.{stored-counts, stored-sees, change-is}
+use Rattle.dwarf.proofs.Loops.{PutLeft, rules-all, put-turn, put-done, rules-room, rules-place}
 use borrow.Author.Needs.{needs}
 use native.Mathlib.Omega.{arith}
 use Rattle.dwarf.proofs.put_rules.Statement.{statement}
 use Rattle.dwarf.proofs.put_rules.Tie as tie
 
 abbrev Inv-loop : tie.InvT-loop
-Inv-loop out₀ at body from n family ra seen₀ p₀ a₀ k₀ out seen p a k = PutLeft body family ra seen₀ from n out₀ at out seen p a k
+Inv-loop out₀ at body from n family ra seen₀ p₀ a₀ k₀ out seen p a k = PutLeft body family ra seen₀ from n out₀ at out seen p a k × (length (seen .kind) ≡ 64) × (length (seen .value) ≡ 64)
 
 abbrev μ-loop : tie.MeasureT-loop
 μ-loop out₀ at body from n family ra seen₀ p₀ a₀ k₀ out seen p a k = k
 
 loop-holds : tie.Need-loop-holds Inv-loop μ-loop
-loop-holds c = record { rules = rules-all (omega (arith, c .before .before .pre .2)); text = left-all (omega arith) (omega arith) }
+loop-holds c = (record { rules = rules-all (omega (arith, c .before .before .pre .2)); text = left-all (omega arith) (omega arith) }, search needs, search needs)
 
 rule-at-requires : tie.Need-rule-at-requires Inv-loop μ-loop
-rule-at-requires c κs = omega (arith, c .before .loop .inv .rules .at)
+rule-at-requires c κs = omega (arith, c .before .loop .inv .0 .rules .at)
 
-remember-requires : tie.Need-remember-requires Inv-loop μ-loop
-remember-requires c κs = rules-room (c .before .before .loop .inv .rules) (search needs) (c .rule-at .ensures) (c .before .before .before .before .before .pre .2)
+place-requires : tie.Need-place-requires Inv-loop μ-loop
+place-requires c κs = search needs
+
+mul-both : tie.Need-mul-both Inv-loop μ-loop
+mul-both c = record { fits = omega (arith, rules-place (c .before .before .before .before .before .before .loop .inv .0 .rules) (search needs) (c .before .before .before .before .rule-at .ensures) (c .before .before .before .before .before .before .before .before .before .pre .2) (search needs) (c .place .ensures)) }
+
+element-copy-out-both : tie.Need-element-copy-out-both Inv-loop μ-loop
+element-copy-out-both c = omega (arith, rules-place (c .before .before .before .before .before .before .loop .inv .0 .rules) (search needs) (c .before .before .before .before .rule-at .ensures) (c .before .before .before .before .before .before .before .before .before .pre .2) (search needs) (c .place .ensures))
+
+mul-both-2 : tie.Need-mul-both-2 Inv-loop μ-loop
+mul-both-2 c = record { fits = omega (arith, rules-place (c .before .before .before .before .before .before .before .before .loop .inv .0 .rules) (search needs) (c .before .before .before .before .before .before .rule-at .ensures) (c .before .before .before .before .before .before .before .before .before .before .before .pre .2) (search needs) (c .before .before .place .ensures)) }
+
+element-copy-out-both-2 : tie.Need-element-copy-out-both-2 Inv-loop μ-loop
+element-copy-out-both-2 c = omega (arith, rules-place (c .before .before .before .before .before .before .before .before .loop .inv .0 .rules) (search needs) (c .before .before .before .before .before .before .rule-at .ensures) (c .before .before .before .before .before .before .before .before .before .before .before .pre .2) (search needs) (c .before .before .place .ensures))
+
+both-requires : tie.Need-both-requires Inv-loop μ-loop
+both-requires c κs = search needs
+
+both-requires-2 : tie.Need-both-requires-2 Inv-loop μ-loop
+both-requires-2 c κs = search needs
+
+mul-seen : tie.Need-mul-seen Inv-loop μ-loop
+mul-seen c = record { fits = omega (arith, rules-place (c .before .before .before .before .before .before .before .before .before .before .before .before .loop .inv .0 .rules) (search needs) (c .before .before .before .before .before .before .before .before .before .before .rule-at .ensures) (c .before .before .before .before .before .before .before .before .before .before .before .before .before .before .before .pre .2) (search needs) (c .before .before .before .before .before .before .place .ensures)) }
+
+element-write-seen : tie.Need-element-write-seen Inv-loop μ-loop
+element-write-seen c = omega (arith, rules-place (c .before .before .before .before .before .before .before .before .before .before .before .before .loop .inv .0 .rules) (search needs) (c .before .before .before .before .before .before .before .before .before .before .rule-at .ensures) (c .before .before .before .before .before .before .before .before .before .before .before .before .before .before .before .pre .2) (search needs) (c .before .before .before .before .before .before .place .ensures))
+
+mul-seen-2 : tie.Need-mul-seen-2 Inv-loop μ-loop
+mul-seen-2 c = record { fits = omega (arith, rules-place (c .before .before .before .before .before .before .before .before .before .before .before .before .loop .inv .0 .rules) (search needs) (c .before .before .before .before .before .before .before .before .before .before .rule-at .ensures) (c .before .before .before .before .before .before .before .before .before .before .before .before .before .before .before .pre .2) (search needs) (c .before .before .before .before .before .before .place .ensures)) }
+
+element-write-seen-2 : tie.Need-element-write-seen-2 Inv-loop μ-loop
+element-write-seen-2 c = omega (arith, rules-place (c .before .before .before .before .before .before .before .before .before .before .before .before .loop .inv .0 .rules) (search needs) (c .before .before .before .before .before .before .before .before .before .before .rule-at .ensures) (c .before .before .before .before .before .before .before .before .before .before .before .before .before .before .before .pre .2) (search needs) (c .before .before .before .before .before .before .place .ensures))
+
+mul-seen-3 : tie.Need-mul-seen-3 Inv-loop μ-loop
+mul-seen-3 c = record { fits = omega (arith, rules-place (c .before .before .before .before .before .before .before .before .before .before .before .before .loop .inv .0 .rules) (search needs) (c .before .before .before .before .before .before .before .before .before .before .rule-at .ensures) (c .before .before .before .before .before .before .before .before .before .before .before .before .before .before .before .pre .2) (search needs) (c .before .before .before .before .before .before .place .ensures)) }
+
+element-write-seen-3 : tie.Need-element-write-seen-3 Inv-loop μ-loop
+element-write-seen-3 c = omega (arith, rules-place (c .before .before .before .before .before .before .before .before .before .before .before .before .loop .inv .0 .rules) (search needs) (c .before .before .before .before .before .before .before .before .before .before .rule-at .ensures) (c .before .before .before .before .before .before .before .before .before .before .before .before .before .before .before .pre .2) (search needs) (c .before .before .before .before .before .before .place .ensures))
+
+count-behind-requires : tie.Need-count-behind-requires Inv-loop μ-loop
+count-behind-requires c κs = omega (arith, c .before .before .before .before .before .before .before .before .before .before .before .before .loop .inv .0 .rules .few)
 
 write-register-rule-requires : tie.Need-write-register-rule-requires Inv-loop μ-loop
 write-register-rule-requires c κs = search needs
 
 add-a : tie.Need-add-a Inv-loop μ-loop
-add-a c = record { fits = omega (arith, c .before .before .before .before .before .before .before .before .loop .inv .rules .at) }
+add-a c = record { fits = omega (arith, c .before .before .before .before .before .before .before .before .before .before .before .before .before .before .before .before .before .loop .inv .0 .rules .at) }
 
 sub-k : tie.Need-sub-k Inv-loop μ-loop
 sub-k c = search needs
@@ -40,11 +81,22 @@ loop-less c = search needs
 
 loop-again : tie.Need-loop-again Inv-loop μ-loop
 loop-again c =
-    put-turn {c₁ = c .before .before .before .before .before .remember .result .cache} (c .before .before .before .before .before .before .before .before .loop .inv) (search needs) (c .before .before .before .before .before .before .rule-at .ensures) (c .before .before .before .before .before .before .before .before .before .before .before .pre .2) (c .before .before .before .before .before .remember .ensures .0) (c .before .before .before .before .before .remember .ensures .1 .0)
-    (put-as (c .before .before .before .write-register-rule .ensures) (ap (λ (t : Bool). rulesText (cond t (ruleRules (c .before .before .before .before .before .before .before .before .before .before .before .args .family) (c .before .before .before .before .before .before .before .before .before .before .before .args .ra) (c .before .before .before .before .before .before .rule-at .result)) [])) (c .before .before .before .before .before .remember .ensures .1 .1)))
+    let s = c .before .before .before .before .before .before .before .before .before .before .before .before .before .before .before .before .before .loop .seen in
+    let x = c .before .before .before .before .before .before .before .before .before .before .before .before .before .before .before .rule-at .result in
+    let lr : length (s .register) ≡ 64 = search needs in
+    let lk : length (s .kind) ≡ 64 = c .before .before .before .before .before .before .before .before .before .before .before .before .before .before .before .before .before .loop .inv .1 in
+    let lv : length (s .value) ≡ 64 = c .before .before .before .before .before .before .before .before .before .before .before .before .before .before .before .before .before .loop .inv .2 in
+    let room = rules-room (c .before .before .before .before .before .before .before .before .before .before .before .before .before .before .before .before .before .loop .inv .0 .rules) (search needs) (c .before .before .before .before .before .before .before .before .before .before .before .before .before .before .before .rule-at .ensures) (c .before .before .before .before .before .before .before .before .before .before .before .before .before .before .before .before .before .before .before .before .pre .2) in
+    let counts = stored-counts s (x .register) (x .kind) (x .value) lr lk lv room (c .before .before .before .before .before .before .before .before .before .before .before .place .ensures) (c .before .before .before .before .count-behind .ensures) in
+    let sees = stored-sees s (x .register) (x .kind) (x .value) lr lk lv room (c .before .before .before .before .before .before .before .before .before .before .before .place .ensures) (c .before .before .before .before .count-behind .ensures) in
+    let changed = change-is s (x .register) (x .kind) (x .value) lr lk lv room (c .before .before .before .before .before .before .before .before .before .before .before .place .ensures) (c .before .before .before .before .before .before .both .ensures) (c .before .before .before .before .before .both2 .ensures) in
+    let a = c .before .before .before .before .before .before .before .before .before .before .before .before .before .before .before .before .before .before .before .before .args in
+    let next = put-turn (c .before .before .before .before .before .before .before .before .before .before .before .before .before .before .before .before .before .loop .inv .0) (search needs) (c .before .before .before .before .before .before .before .before .before .before .before .before .before .before .before .rule-at .ensures) (c .before .before .before .before .before .before .before .before .before .before .before .before .before .before .before .before .before .before .before .before .pre .2) counts sees
+    (put-as (c .before .before .write-register-rule .ensures) (ap (λ (t : Bool). rulesText (cond t (ruleRules (a .family) (a .ra) x) [])) changed)) in
+    (next, length-set (s .kind) _ _ ∙ lk, length-set (s .value) _ _ ∙ lv)
 
 returns : tie.Need-returns Inv-loop μ-loop
-returns c = put-done (c .before .loop .inv) (search needs)
+returns c = put-done (c .before .loop .inv .0) (search needs)
 
 same-length : tie.Need-same-length Inv-loop μ-loop
 same-length c = put-length (returns c)
@@ -57,7 +109,20 @@ put-rules-spec =
     μ-loop
     loop-holds
     rule-at-requires
-    remember-requires
+    place-requires
+    mul-both
+    element-copy-out-both
+    mul-both-2
+    element-copy-out-both-2
+    both-requires
+    both-requires-2
+    mul-seen
+    element-write-seen
+    mul-seen-2
+    element-write-seen-2
+    mul-seen-3
+    element-write-seen-3
+    count-behind-requires
     write-register-rule-requires
     add-a
     sub-k
