@@ -30,15 +30,6 @@ apart c q r fits h e =
     ∙ ap (λ (i : ℕ). getD (take (c .count) (c .register)) i 0) (sym e)
     ∙ first-holds (take (c .count) (c .register)) q (omega arith)
 
--- the rule is the one last seen
-pub kept : (c : RuleCache) (r k v : ℕ) → placeOf c r < c .count → getD (c .kind) (placeOf c r) 0 ≡ k → getD (c .value) (placeOf c r) 0 ≡ v
-    → (q : ℕ) → lookup c q ≡ cond (eqb r q) (seen k v) (lookup c q)
-kept c r k v h ek ev q = go (eqb r q) refl
-  where
-    go : (b : Bool) → eqb r q ≡ b → lookup c q ≡ cond b (seen k v) (lookup c q)
-    go true e = ap (lookup c) (sym (eqb-true r q e)) ∙ seen-at c r (placeOf c r) refl h ∙ cc
-    go false e = refl
-
 -- another rule is stored at the register's place
 pub replaced : (c : RuleCache) (r k v : ℕ) → c .count ≤ length (c .register) → c .count ≤ length (c .kind) → c .count ≤ length (c .value) → placeOf c r < c .count
     → (q : ℕ) → lookup (record { register = c .register; kind = set (c .kind) (placeOf c r) k; value = set (c .value) (placeOf c r) v; count = c .count }) q
@@ -111,15 +102,6 @@ module _ (c : RuleCache) (r k v : ℕ) (fr : c .count < length (c .register)) (f
 pub differs-at : (c : RuleCache) (r k v : ℕ) → placeOf c r < c .count → (b : Bool)
     → differs (seen (getD (c .kind) (placeOf c r) 0) (getD (c .value) (placeOf c r) 0)) k v ≡ b → b ≡ differs (lookup c r) k v
 differs-at c r k v h b e = sym e ∙ ap (λ (l : Seen). differs l k v) (sym (seen-at c r (placeOf c r) refl h))
-
-pub same-rule : (k₀ v₀ k v : ℕ) → k₀ ≡ k → v₀ ≡ v → differs (seen k₀ v₀) k v ≡ false
-same-rule k₀ v₀ k v ek ev = simp (eq-eqb k₀ k ek, eq-eqb v₀ v ev)
-
-pub other-kind : (k₀ v₀ k v : ℕ) → (k₀ ≡ k → ⊥) → differs (seen k₀ v₀) k v ≡ true
-other-kind k₀ v₀ k v ek = simp (ne-eqb k₀ k ek)
-
-pub other-value : (k₀ v₀ k v : ℕ) → k₀ ≡ k → (v₀ ≡ v → ⊥) → differs (seen k₀ v₀) k v ≡ true
-other-value k₀ v₀ k v ek ev = simp (eq-eqb k₀ k ek, ne-eqb v₀ v ev)
 
 pub differs-new : (c : RuleCache) (r k v : ℕ) → c .count ≤ placeOf c r → true ≡ differs (lookup c r) k v
 differs-new c r k v h = sym (ap (λ (l : Seen). differs l k v) (seen-not c r h))

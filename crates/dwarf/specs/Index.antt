@@ -1,10 +1,12 @@
 -- One step of each definition over the words, as the code's loops take them, and what the layout gives them.
-use mathlib.Core.Path.{_≡_, refl}
+use mathlib.Core.Path.{_≡_, refl, sym, ap}
 use Prim.Native.Nat.{ℕ, zero, suc, _+_, _-_, _*_, _≤_, _<_}
 use native.Mathlib.Omega.{arith}
 use mathlib.Core.Bool.{Bool, true, false, cond, _&&_, _||_}
 use mathlib.Core.List.{List, [], _∷_, _++_}
-use lib.Dec.{T, ltb, leb, eqb, leb→le}
+use lib.ListN.{length, length-append}
+use lib.Dec.{T, ltb, leb, eqb, leb→le, eqb→eq}
+use borrow.Author.Tests.{le-leb}
 use Rattle.text.specs.Tests.{and-l, and-r}
 use Rattle.entry.specs.declared.Judged.the-variants.{Refuse, Skip, Write}
 use Rattle.dwarf.specs.declared.RegisterRule.{RegisterRule}
@@ -72,6 +74,33 @@ layout-rows ws h = and-l (rowsFit ws (rowCount ws) 7) _ (and-r (headFits ws) _ h
 pub layout-distinct : (ws : List ℕ) → T (dwarfLayout ws) → distinct [] (registers (rulesOf (rows ws))) ≤ 64
 unfolding dwarfLayout
 layout-distinct ws h = leb→le (distinct [] (registers (rulesOf (rows ws)))) 64 (and-r (rowsFit ws (rowCount ws) 7) _ (and-r (headFits ws) _ h))
+
+-- a body of few words has few rules, and so few registers
+rules-long : (ws : List ℕ) (n a : ℕ) → length (rulesFrom ws n a) ≡ n
+unfolding rulesFrom
+rules-long ws zero a = refl
+rules-long ws (suc n) a = ap suc (rules-long ws n (a + 4))
+
+rows-words : (ws : List ℕ) (m a : ℕ) → T (rowsFit ws m a) → 4 * length (rulesOf (rowsFrom ws m a)) + a ≤ length ws
+unfolding rowsFit rowsFrom rulesOf
+rows-words ws zero a h = omega (arith, eqb→eq a (length ws) h)
+rows-words ws (suc m) a h =
+    let k = rows-words ws m (nextRow ws a) (and-r (rowFits ws a) _ h) in
+    omega (arith, k, length-append (rulesFrom ws (ruleCount ws a) (a + 9)) (rulesOf (rowsFrom ws m (nextRow ws a))), rules-long ws (ruleCount ws a) (a + 9))
+
+distinct-few : (met : List ℕ) (xs : List RegisterRule) → distinct met (registers xs) ≤ length xs
+unfolding distinct registers
+distinct-few met [] = omega arith
+distinct-few met (x ∷ xs) = go (member (x .register) met) (distinct-few (x .register ∷ met) xs)
+  where
+    go : (b : Bool) → distinct (x .register ∷ met) (registers xs) ≤ length xs → cond b 0 1 + distinct (x .register ∷ met) (registers xs) ≤ suc (length xs)
+    go true h = omega arith
+    go false h = omega arith
+
+pub few-words : (ws : List ℕ) → T (rowsFit ws (rowCount ws) 7) → length ws ≤ 263 → true ≡ leb (distinct [] (registers (rulesOf (rows ws)))) 64
+unfolding rows
+few-words ws h k =
+    sym (le-leb (distinct [] (registers (rulesOf (rows ws)))) 64 (omega (arith, rows-words ws (rowCount ws) 7 h, distinct-few [] (rulesOf (rowsFrom ws (rowCount ws) 7)))))
 
 -- ---- registers met
 

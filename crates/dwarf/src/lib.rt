@@ -47,6 +47,9 @@ ghost use Rattle.dwarf.specs.Cache.{firstIn, lookup, behind, cfaOf, fres
 // The registers that rules may name in a body.
 const MOST_REGISTERS: usize = 64;
 
+// So many words hold at most 64 rules, of four words each behind the seven of the head.
+const FEW_WORDS: usize = 263;
+
 // Register numbers end here.
 const REGISTERS: u32 = 65536;
 
@@ -882,6 +885,9 @@ fn layout(body: &[u32]) -> bool
     }
     if !rows_fit(body) {
         return false;
+    }
+    if body.len() <= FEW_WORDS {
+        return true;
     }
     registers_fit(body)
 }

@@ -5,7 +5,6 @@ use borrow.Author.Tests.{eq-eqb, ne-eqb}
 use Rattle.dwarf.proofs.count_behind.Statement.{statement}
 use Rattle.dwarf.proofs.count_behind.Tie as tie
 
-
 add-result : tie.Need-add-result
 add-result c = search needs
 

@@ -3,7 +3,7 @@ use mathlib.Core.Path.{_≡_, sym, _∙_}
 use mathlib.Core.Bool.{true}
 use borrow.Author.Tests.{not-true, not-false}
 use Rattle.dwarf.specs.Dwarf.{headFits, rowsFit, rowCount, dwarfLayout}
-use Rattle.dwarf.specs.Index.{head-few}
+use Rattle.dwarf.specs.Index.{head-few, few-words}
 use borrow.Author.Needs.{needs}
 use Rattle.dwarf.proofs.layout.Statement.{statement}
 use Rattle.dwarf.proofs.layout.Tie as tie
@@ -24,15 +24,28 @@ returns-2 : tie.Need-returns-2
 unfolding dwarfLayout
 returns-2 c = rw (sym (c .before .before .before .head-fits .ensures) ∙ not-false (c .before .before .before .head-fits .result) (c .before .before .if1 .left), sym (c .before .rows-fit .ensures) ∙ not-true (c .before .rows-fit .result) (c .if2 .taken))
 
-registers-fit-requires : tie.Need-registers-fit-requires
-registers-fit-requires c κs =
-    let t : headFits (c .before .before .before .before .before .args .body .now) ≡ true = sym (c .before .before .before .head-fits .ensures) ∙ not-false (c .before .before .before .head-fits .result) (c .before .before .if1 .left) in
-    let u : rowsFit (c .before .before .before .before .before .args .body .now) (rowCount (c .before .before .before .before .before .args .body .now)) 7 ≡ true = sym (c .before .rows-fit .ensures) ∙ not-false (c .before .rows-fit .result) (c .if2 .left) in
-    (head-few (c .before .before .before .before .before .args .body .now) (rw t tt), rw u tt)
-
 returns-3 : tie.Need-returns-3
 unfolding dwarfLayout
-returns-3 c = rw (sym (c .before .before .before .before .head-fits .ensures) ∙ not-false (c .before .before .before .before .head-fits .result) (c .before .before .before .if1 .left), sym (c .before .before .rows-fit .ensures) ∙ not-false (c .before .before .rows-fit .result) (c .before .if2 .left)) (c .registers-fit .ensures)
+returns-3 c =
+    let w = c .before .before .before .before .before .before .args .body .now in
+    let t : headFits w ≡ true = sym (c .before .before .before .before .head-fits .ensures) ∙ not-false (c .before .before .before .before .head-fits .result) (c .before .before .before .if1 .left) in
+    let u : rowsFit w (rowCount w) 7 ≡ true = sym (c .before .before .rows-fit .ensures) ∙ not-false (c .before .before .rows-fit .result) (c .before .if2 .left) in
+    rw (t, u) (few-words w (rw u tt) (search needs))
+
+registers-fit-requires : tie.Need-registers-fit-requires
+registers-fit-requires c κs =
+    let w = c .before .before .before .before .before .before .args .body .now in
+    let t : headFits w ≡ true = sym (c .before .before .before .before .head-fits .ensures) ∙ not-false (c .before .before .before .before .head-fits .result) (c .before .before .before .if1 .left) in
+    let u : rowsFit w (rowCount w) 7 ≡ true = sym (c .before .before .rows-fit .ensures) ∙ not-false (c .before .before .rows-fit .result) (c .before .if2 .left) in
+    (head-few w (rw t tt), rw u tt)
+
+returns-4 : tie.Need-returns-4
+unfolding dwarfLayout
+returns-4 c =
+    let w = c .before .before .before .before .before .before .before .args .body .now in
+    let t : headFits w ≡ true = sym (c .before .before .before .before .before .head-fits .ensures) ∙ not-false (c .before .before .before .before .before .head-fits .result) (c .before .before .before .before .if1 .left) in
+    let u : rowsFit w (rowCount w) 7 ≡ true = sym (c .before .before .before .rows-fit .ensures) ∙ not-false (c .before .before .before .rows-fit .result) (c .before .before .if2 .left) in
+    rw (t, u) (c .registers-fit .ensures)
 
 pub layout-spec : {M : Type 1} → statement M
 layout-spec =
@@ -42,5 +55,6 @@ layout-spec =
     returns
     rows-fit-requires
     returns-2
+    returns-3
     registers-fit-requires
-    returns-3)
+    returns-4)
