@@ -118,7 +118,11 @@ fn operations(rng: &mut Rng, most: u32) -> Vec<Operation> {
 }
 
 fn chain(rng: &mut Rng, most: u32) -> Vec<Info> {
-    let count = rng.from_to(if most > 32 { 0 } else { 1 }, most);
+    let count = match rng.below(4) {
+        0 if most > 32 => rng.from_to(31, 33),
+        1 if most > 32 => rng.below(2),
+        _ => rng.from_to(1, most),
+    };
     let most_operations = if most > 4 { 3 } else { 8 };
     let mut infos: Vec<Info> = (0..count)
         .map(|_| Info(rng.below(16), rng.below(241), operations(rng, most_operations)))
