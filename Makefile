@@ -2,14 +2,17 @@
 RUST_SRC ?= ../shared/docs/src
 export RUST_SRC
 
-.PHONY: help run test lib fuzz bench prove must-fail fmt clean
+.PHONY: help run compare test lib fuzz bench bench-docs profile prove must-fail fmt clean
 
 help:
 	@echo 'make run BOOK=file        print the STACK lines of a book, as specimens/first.book'
+	@echo 'make compare A=file B=file   say whether two books have the same records'
 	@echo 'make test                 everything: the proofs, the must-fail edits, the programs, the tests beside them'
 	@echo 'make lib                  the archive to link from C, target/staticlib/libtranslate.a; its header is bindings/c/stacklines.h'
 	@echo 'make fuzz [SEED=] [N=]    the archive against the model and the Rust on N books, from a fresh seed unless one is given'
-	@echo 'make bench                how the time for a DWARF body grows with its rows'
+	@echo 'make bench [LTO=fat]      the speed beside the Rust, how the time grows, the stack taken; LTO links the Rust that way'
+	@echo 'make bench-docs           the same, and its tables into docs/BENCHMARKS.md'
+	@echo 'make profile              instructions by function on both sides, with valgrind'
 	@echo 'make prove                the proofs alone'
 	@echo 'make must-fail            the must-fail edits alone'
 	@echo 'make fmt                  lay out the sources'
@@ -24,6 +27,13 @@ run:
 	@rt check stacklines >target/run.log 2>&1 || { cat target/run.log >&2; exit 1; }
 	@target/bin/stacklines <'$(BOOK)'
 
+compare:
+	@test -f '$(A)' && test -f '$(B)' || { echo 'make compare A=file B=file' >&2; exit 2; }
+	@mkdir -p target
+	@test -f target/bin/compare || echo 'proving compare first; that takes minutes' >&2
+	@rt check compare >target/compare.log 2>&1 || { cat target/compare.log >&2; exit 1; }
+	@target/bin/compare '$(A)' '$(B)'
+
 test:
 	@sh tests/run
 
@@ -36,8 +46,13 @@ fuzz: lib
 	@SEED='$(SEED)' N='$(N)' sh tests/fuzz
 
 bench: lib
-	@gcc -std=c11 -D_POSIX_C_SOURCE=199309L -Wall -Wextra -Werror -O1 -Ibindings/c -o target/bench tests/bench.c target/staticlib/libtranslate.a
-	@target/bench
+	@LTO='$(LTO)' sh tests/bench
+
+bench-docs: lib
+	@sh tests/bench docs/BENCHMARKS.md
+
+profile: lib
+	@sh tests/profile
 
 prove:
 	rt prove

@@ -19,6 +19,25 @@ extern "C" {
     ) -> u32;
 }
 
+/// The call, without fences.
+#[inline(never)]
+pub fn translate(book: &[u32], limit: u32, work: &mut [u8], text: &mut [u8], counts: &mut [u64]) -> u32 {
+    // SAFETY: every pointer leads to as many elements as its length says, and the buffers are lent apart.
+    unsafe {
+        stacklines_translate(
+            book.as_ptr(),
+            book.len(),
+            limit,
+            work.as_mut_ptr(),
+            work.len(),
+            text.as_mut_ptr(),
+            text.len(),
+            counts.as_mut_ptr(),
+            counts.len(),
+        )
+    }
+}
+
 const FENCE: usize = 64;
 
 /// A buffer between two fences.

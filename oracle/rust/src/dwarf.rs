@@ -24,6 +24,14 @@ pub fn answer(bodies: &[&[u32]]) -> Answer {
     Answer { text, exceeded: false }
 }
 
+/// All bodies as entries of one object, for bodies that agree about family and load address. The entries stay for good.
+pub fn object(bodies: &[&[u32]]) -> Object<'static> {
+    let (family, load_address) = bodies.first().map_or((0, 0), |body| (body[0], wide(&body[3..])));
+    assert!(bodies.iter().all(|body| body[0] == family && wide(&body[3..]) == load_address));
+    let entries: Vec<Fde> = bodies.iter().map(|body| entry(body)).collect();
+    Object::Elf(ElfObject { arch: arch(family), load_address, section_name: "eh_frame", entries: entries.leak() })
+}
+
 /// An architecture of the family.
 fn arch(family: u32) -> Arch {
     let arch = Arch::from_u32(if family == 0 { 0 } else { 100 * family + 1 });

@@ -30,6 +30,29 @@ pub fn rust_answer(book: &[u32], limit: u32) -> Answer {
     }
 }
 
+/// A book as one object, filled in so that only the translation is left to do.
+pub struct Prepared(Object<'static>);
+
+/// Of a book that one object can hold: DWARF bodies agree about family and load address, PDB bodies about the string table.
+pub fn prepare(book: &[u32]) -> Prepared {
+    let bodies = bodies(book).expect("a book that keeps the contents rules");
+    Prepared(match book[0] {
+        X64 => x64::object(&bodies),
+        ARM64 => arm64::object(&bodies),
+        DWARF => dwarf::object(&bodies),
+        _ => pdb::object(&bodies),
+    })
+}
+
+impl Prepared {
+    /// The translation alone, without a limit, into a text that is cleared first and keeps its room.
+    #[inline(never)]
+    pub fn translate(&self, text: &mut Vec<u8>) {
+        text.clear();
+        AsciiCfiWriter::new(text).process(&self.0).expect("a book that the Rust translates");
+    }
+}
+
 /// 32 stands for no limit.
 fn chain_limit(limit: u32) -> Option<usize> {
     (limit != 32).then_some(limit as usize)

@@ -22,6 +22,18 @@ pub fn answer(bodies: &[&[u32]]) -> Answer {
     Answer { text, exceeded: false }
 }
 
+/// All frames as one object, for bodies that agree about the string table.
+pub fn object(bodies: &[&[u32]]) -> Object<'static> {
+    let has_table = bodies.first().is_some_and(|body| body[11] == 1);
+    assert!(bodies.iter().all(|body| (body[11] == 1) == has_table));
+    let frames = Rc::new(bodies.iter().map(|body| frame(body)).collect());
+    Object::Pdb(PdbObject { inner: Locked(RefCell::new(pdb(frames, has_table, Rc::new(|| ())))) })
+}
+
+fn pdb(frames: Rc<Vec<Frame>>, has_table: bool, watch: Rc<dyn Fn()>) -> Pdb<'static> {
+    Pdb { frames, has_table, cursor: Rc::default(), watch, lifetime: PhantomData }
+}
+
 /// A writer whose text can be looked at while it grows.
 #[derive(Clone, Default)]
 struct Shared(Rc<RefCell<Vec<u8>>>);
@@ -41,13 +53,8 @@ fn lines(frames: &Rc<Vec<Frame>>, has_table: bool) -> Vec<Vec<u8>> {
     let text = Shared::default();
     let ends = Rc::new(RefCell::new(Vec::new()));
     let (watched, seen) = (text.clone(), ends.clone());
-    let pdb = Pdb {
-        frames: frames.clone(),
-        has_table,
-        cursor: Rc::default(),
-        watch: Rc::new(move || seen.borrow_mut().push(watched.0.borrow().len())),
-        lifetime: PhantomData,
-    };
+    let watch = Rc::new(move || seen.borrow_mut().push(watched.0.borrow().len()));
+    let pdb = pdb(frames.clone(), has_table, watch);
     let object = Object::Pdb(PdbObject { inner: Locked(RefCell::new(pdb)) });
     let result = AsciiCfiWriter::new(text.clone()).process(&object);
     result.expect("the Rust translates every frame");
@@ -70,7 +77,7 @@ fn frame(body: &[u32]) -> Frame {
         locals_size: body[6],
         max_stack_size: (body[7] == 1).then_some(body[8]),
         uses_base_pointer: body[9] == 1,
-        program: (body[10] == 1).then_some(StringRef(program)),
+        program: (body[10] == 1).then(|| StringRef(program.into())),
     };
     Frame { data, prolog: ranges(prolog), code: ranges(code) }
 }

@@ -3,7 +3,7 @@
 use std::marker::PhantomData;
 use symbolic_common::Arch;
 use symbolic_debuginfo::pe::{
-    ExceptionData, Function, PeObject, Register, RuntimeFunction, StackFrameOffset, UnwindInfo, UnwindOperation,
+    ExceptionData, Function, Info, PeObject, Register, RuntimeFunction, StackFrameOffset, UnwindOperation,
 };
 use symbolic_debuginfo::Object;
 
@@ -25,10 +25,9 @@ fn function(body: &[u32]) -> Function {
     let mut chain = Vec::new();
     for _ in 0..body[3] {
         let (operations, after) = rest[3..].split_at(3 * rest[2] as usize);
-        chain.push(UnwindInfo {
+        chain.push(Info {
             frame_register: Register(rest[0] as u8),
             frame_register_offset: rest[1],
-            chained_info: None,
             codes: operations.chunks(3).map(operation).collect(),
         });
         rest = after;

@@ -51,6 +51,7 @@ pub mod gimli {
     use super::Endian;
     use std::fmt::Debug;
     use std::hash::Hash;
+    use std::rc::Rc;
 
     #[derive(Clone, Copy, Debug, PartialEq, Eq)]
     pub enum Error {
@@ -132,12 +133,13 @@ pub mod gimli {
         pub rows: Vec<UnwindTableRow<T>>,
     }
 
+    /// A row. The Rust clones every row; here that shares the rules, where gimli's own row holds room for 192 and copies it.
     #[derive(Clone, Debug, PartialEq, Eq)]
     pub struct UnwindTableRow<T: ReaderOffset = usize> {
         pub start: u64,
         pub end: u64,
         pub cfa: CfaRule<T>,
-        pub rules: Vec<(Register, RegisterRule<T>)>,
+        pub rules: Rc<[(Register, RegisterRule<T>)]>,
     }
 
     impl<T: ReaderOffset> UnwindTableRow<T> {
@@ -182,7 +184,7 @@ pub mod gimli {
         fn reader(&self) -> &R;
 
         fn entries(&self, _bases: &BaseAddresses) -> CfiEntriesIter<R> {
-            CfiEntriesIter { entries: self.reader().entries().to_vec(), given: 0 }
+            CfiEntriesIter { reader: self.reader().clone(), given: 0 }
         }
 
         fn cie_from_offset(&self, _bases: &BaseAddresses, _offset: Self::Offset) -> Result<Cie> {
@@ -232,16 +234,19 @@ pub mod gimli {
     section!(DebugFrame);
 
     pub struct CfiEntriesIter<R: Reader> {
-        entries: Vec<Fde<R::Offset>>,
+        reader: R,
         given: usize,
     }
 
     impl<R: Reader> CfiEntriesIter<R> {
         #[allow(clippy::should_implement_trait)]
         pub fn next(&mut self) -> Result<Option<CieOrFde<R>>> {
-            let entry = self.entries.get(self.given).cloned();
+            let at = self.given;
+            if at == self.reader.entries().len() {
+                return Ok(None);
+            }
             self.given += 1;
-            Ok(entry.map(|e| CieOrFde::Fde(PartialFrameDescriptionEntry(e))))
+            Ok(Some(CieOrFde::Fde(PartialFrameDescriptionEntry { reader: self.reader.clone(), at })))
         }
     }
 
@@ -259,26 +264,31 @@ pub mod gimli {
         }
     }
 
-    pub struct PartialFrameDescriptionEntry<R: Reader>(Fde<R::Offset>);
+    /// An entry by its place among those of the reader.
+    pub struct PartialFrameDescriptionEntry<R: Reader> {
+        reader: R,
+        at: usize,
+    }
 
     impl<R: Reader> PartialFrameDescriptionEntry<R> {
         pub fn parse<S, O, F>(&self, _get_cie: F) -> Result<FrameDescriptionEntry<R>>
         where
             F: FnMut(&S, &BaseAddresses, O) -> Result<Cie>,
         {
-            let cie = Cie(self.0.return_register);
-            Ok(FrameDescriptionEntry { cie, entry: self.0.clone() })
+            let cie = Cie(self.reader.entries()[self.at].return_register);
+            Ok(FrameDescriptionEntry { cie, reader: self.reader.clone(), at: self.at })
         }
     }
 
     pub struct FrameDescriptionEntry<R: Reader> {
         cie: Cie,
-        entry: Fde<R::Offset>,
+        reader: R,
+        at: usize,
     }
 
     impl<R: Reader> FrameDescriptionEntry<R> {
         pub fn initial_address(&self) -> u64 {
-            self.entry.initial_address
+            self.reader.entries()[self.at].initial_address
         }
 
         pub fn cie(&self) -> &Cie {
@@ -291,7 +301,7 @@ pub mod gimli {
             _bases: &BaseAddresses,
             _ctx: &mut UnwindContext<R::Offset>,
         ) -> Result<UnwindTable<'_, R::Offset>> {
-            Ok(UnwindTable { rows: &self.entry.rows, given: 0 })
+            Ok(UnwindTable { rows: &self.reader.entries()[self.at].rows, given: 0 })
         }
     }
 

@@ -82,9 +82,9 @@ pub mod pdb {
         FrameData = 4,
     }
 
-    /// A reference into the string table: here the string itself.
+    /// A reference into the string table: here the string itself, shared.
     #[derive(Clone, Debug)]
-    pub struct StringRef(pub String);
+    pub struct StringRef(pub Rc<str>);
 
     impl StringRef {
         pub fn to_string_lossy(&self, _table: &StringTable<'_>) -> Result<Cow<'_, str>, Error> {
@@ -188,7 +188,7 @@ pub mod pdb {
 
     impl AddressMap {
         /// The first question about a frame is for its prolog, the second for its code.
-        pub fn rva_ranges(&self, asked: Range<PdbInternalRva>) -> std::vec::IntoIter<Range<Rva>> {
+        pub fn rva_ranges(&self, asked: Range<PdbInternalRva>) -> std::iter::Cloned<std::slice::Iter<'_, Range<Rva>>> {
             let (i, times) = self.cursor.get();
             self.cursor.set((i, times + 1));
             let Frame { data, prolog, code } = &self.frames[i];
@@ -200,7 +200,7 @@ pub mod pdb {
                 assert_eq!(asked, middle..data.code_start + data.code_size);
                 code
             };
-            ranges.clone().into_iter()
+            ranges.iter().cloned()
         }
     }
 }

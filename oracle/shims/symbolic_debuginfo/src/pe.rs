@@ -47,7 +47,15 @@ pub struct RuntimeFunction {
 /// One function with its chain of infos.
 pub struct Function {
     pub function: RuntimeFunction,
-    pub chain: Vec<UnwindInfo>,
+    pub chain: Vec<Info>,
+}
+
+/// One info of a chain, as the harness fills it in.
+pub struct Info {
+    pub frame_register: Register,
+    pub frame_register_offset: u32,
+    /// In stored order; none is an undecodable one.
+    pub codes: Vec<Option<UnwindOperation>>,
 }
 
 /// One ARM64 function with its codes.
@@ -72,14 +80,18 @@ impl ExceptionData {
         })
     }
 
-    pub fn get_unwind_info(&self, next: RuntimeFunction, _sections: &[()]) -> Result<UnwindInfo, PeError> {
+    pub fn get_unwind_info(&self, next: RuntimeFunction, _sections: &[()]) -> Result<UnwindInfo<'_>, PeError> {
         let (i, asked) = self.cursor.get();
         let function = &self.functions[i];
         assert!(asked > 0 || next == function.function);
         self.cursor.set((i, asked + 1));
-        let mut info = function.chain[asked].clone();
-        info.chained_info = (asked + 1 < function.chain.len()).then_some(function.function);
-        Ok(info)
+        let info = &function.chain[asked];
+        Ok(UnwindInfo {
+            frame_register: info.frame_register,
+            frame_register_offset: info.frame_register_offset,
+            chained_info: (asked + 1 < function.chain.len()).then_some(function.function),
+            codes: &info.codes,
+        })
     }
 
     pub fn functions_arm64(&self) -> impl Iterator<Item = Result<Arm64RuntimeFunction, PeError>> + '_ {
@@ -151,16 +163,14 @@ pub struct UnwindCode {
     pub operation: UnwindOperation,
 }
 
-#[derive(Clone)]
-pub struct UnwindInfo {
+pub struct UnwindInfo<'a> {
     pub frame_register: Register,
     pub frame_register_offset: u32,
     pub chained_info: Option<RuntimeFunction>,
-    /// In stored order; none is an undecodable one.
-    pub codes: Vec<Option<UnwindOperation>>,
+    codes: &'a [Option<UnwindOperation>],
 }
 
-impl UnwindInfo {
+impl UnwindInfo<'_> {
     pub fn unwind_codes(&self) -> impl Iterator<Item = Result<UnwindCode, PeError>> + '_ {
         self.codes
             .iter()

@@ -1,0 +1,70 @@
+//! One book on both sides: the port's call, and the Rust on an object filled in from the book.
+
+use crate::clock;
+use model::book::WORK;
+use rust::{prepare, Prepared};
+
+const NO_LIMIT: u32 = 32;
+
+/// Room for the text of any book here.
+const TEXT: usize = 1 << 22;
+
+pub struct Port {
+    work: Vec<u8>,
+    text: Vec<u8>,
+    counts: [u64; 2],
+}
+
+impl Port {
+    pub fn new() -> Self {
+        Port { work: vec![1; WORK], text: vec![1; TEXT], counts: [0; 2] }
+    }
+
+    /// The timed part: the call, with its checks of the whole book and the clearing of the work area.
+    pub fn translate(&mut self, book: &[u32]) -> u32 {
+        port::translate(book, NO_LIMIT, &mut self.work, &mut self.text, &mut self.counts)
+    }
+
+    fn text(&self) -> &[u8] {
+        &self.text[..self.counts[1] as usize]
+    }
+}
+
+pub struct Both {
+    pub book: Vec<u32>,
+    object: Prepared,
+    /// Bytes of text.
+    pub bytes: usize,
+    /// The least times met, in nanoseconds.
+    pub port: f64,
+    pub rust: f64,
+}
+
+impl Both {
+    /// Fills in the object, and stops the program where the two texts differ.
+    pub fn new(book: Vec<u32>, port: &mut Port, text: &mut Vec<u8>) -> Self {
+        let object = prepare(&book);
+        object.translate(text);
+        let number = port.translate(&book);
+        assert!(number == 0 && port.counts[0] == u64::from(book[1]), "kind {}: refused {number}", book[0]);
+        assert!(port.text() == &text[..], "kind {}: the port's text differs from the Rust's", book[0]);
+        Both { book, object, bytes: text.len(), port: f64::INFINITY, rust: f64::INFINITY }
+    }
+
+    pub fn entries(&self) -> usize {
+        self.book[1] as usize
+    }
+
+    /// Both sides in turn, `times` each.
+    pub fn time(&mut self, times: usize, port: &mut Port, text: &mut Vec<u8>) {
+        let (book, object) = (&self.book, &self.object);
+        let mut number = 0;
+        self.port = self.port.min(clock::of_each(times, || number |= port.translate(book)));
+        self.rust = self.rust.min(clock::of_each(times, || object.translate(text)));
+        assert!(number == 0);
+    }
+}
+
+pub fn text_room() -> Vec<u8> {
+    Vec::with_capacity(TEXT)
+}
