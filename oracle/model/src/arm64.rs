@@ -196,11 +196,7 @@ impl Encoder {
                 self.pair(save.letter, save.register, place, tally);
             }
             RegisterAndLr(save) => self.register_and_lr(save, tally),
-            Next => {
-                let (letter, register, place) = self.last;
-                note_saved(letter, ["arm64 save next x", "arm64 save next d", "arm64 save next q"], tally);
-                self.pair(letter, register + 1, place + width(letter), tally);
-            }
+            Next => self.save_next(tally),
             Other => {
                 tally.note("arm64 other");
                 self.allocate(0, tally);
@@ -250,6 +246,12 @@ impl Encoder {
             self.return_address(second);
         }
         self.last = (letter, register + 1, second);
+    }
+
+    fn save_next(&mut self, tally: &mut Tally) {
+        let (letter, register, place) = self.last;
+        note_saved(letter, ["arm64 save next x", "arm64 save next d", "arm64 save next q"], tally);
+        self.pair(letter, register + 1, place + width(letter), tally);
     }
 
     fn register_and_lr(&mut self, save: &Save, tally: &mut Tally) {
