@@ -2,7 +2,7 @@
 RUST_SRC ?= ../shared/docs/src
 export RUST_SRC
 
-.PHONY: help run compare test lib fuzz bench bench-docs profile prove must-fail fmt clean
+.PHONY: help run compare test lib fuzz faults bench bench-docs profile prove must-fail fmt clean
 
 help:
 	@echo 'make run BOOK=file        print the STACK lines of a book, as specimens/first.book'
@@ -10,6 +10,7 @@ help:
 	@echo 'make test                 everything: the proofs, the must-fail edits, the programs, the tests beside them'
 	@echo 'make lib                  the archive to link from C, target/staticlib/libtranslate.a; its header is bindings/c/stacklines.h'
 	@echo 'make fuzz [SEED=] [N=]    the archive against the model and the Rust on N books, from a fresh seed unless one is given'
+	@echo 'make faults               wrong programs, each caught by a test or refused by the prover; some minutes'
 	@echo 'make bench [LTO=fat]      the speed beside the Rust, how the time grows, the stack taken; LTO links the Rust that way'
 	@echo 'make bench-docs           the same, and its tables into docs/BENCHMARKS.md'
 	@echo 'make profile              instructions by function on both sides, with valgrind'
@@ -44,6 +45,9 @@ lib:
 
 fuzz: lib
 	@SEED='$(SEED)' N='$(N)' sh tests/fuzz
+
+faults:
+	@sh tests/faults/run
 
 bench: lib
 	@LTO='$(LTO)' sh tests/bench

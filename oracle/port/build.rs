@@ -1,4 +1,5 @@
-//! Links the port's archive: `libtranslate.a` in LIBDIR, by default where `rt staticlib translate` writes it.
+//! Links the port's archive: `libtranslate.a` in LIBDIR, by default where `rt staticlib translate` writes it. Where LIBDIR holds a
+//! `libtranslate.so`, that is taken, and looked for again at each run.
 
 use std::env;
 use std::path::PathBuf;
@@ -8,7 +9,8 @@ fn main() {
     let dir = env::var("LIBDIR").map_or_else(|_| root.join("target/staticlib"), PathBuf::from);
     let dir = dir.canonicalize().expect("no folder LIBDIR");
     println!("cargo:rustc-link-search=native={}", dir.display());
-    println!("cargo:rustc-link-lib=static=translate");
+    let kind = if dir.join("libtranslate.so").exists() { "dylib" } else { "static" };
+    println!("cargo:rustc-link-lib={kind}=translate");
     println!("cargo:rerun-if-env-changed=LIBDIR");
     println!("cargo:rerun-if-changed={}", dir.join("libtranslate.a").display());
 }

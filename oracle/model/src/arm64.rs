@@ -44,7 +44,10 @@ pub fn entry(body: &[u32], tally: &mut Tally) -> Judged {
         tally.note("arm64 end");
     }
     if counting.iter().any(|o| matches!(o, Undecodable)) {
-        return Judged::Skipped("arm64 undecodable");
+        return Judged::Skipped("skip arm64 undecodable");
+    }
+    if body.operations.iter().any(|o| matches!(o, Undecodable)) {
+        tally.note("arm64 undecodable behind the end");
     }
     if counting.is_empty() {
         tally.note("arm64 entry without line");
@@ -53,7 +56,8 @@ pub fn entry(body: &[u32], tally: &mut Tally) -> Judged {
     for (i, operation) in counting.iter().rev().enumerate() {
         encoder.line(&body, i as u64, operation, tally);
     }
-    if encoder.out_of_reach {
+    if let Some(why) = encoder.out_of_reach {
+        tally.count(why);
         return Judged::Refused(6);
     }
     Judged::Text(encoder.text)
@@ -101,13 +105,23 @@ fn width(letter: char) -> i64 {
     }
 }
 
+fn note_saved(letter: char, names: [&'static str; 3], tally: &mut Tally) {
+    tally.note("rule at CFA + number");
+    tally.note(match letter {
+        'x' => names[0],
+        'd' => names[1],
+        _ => names[2],
+    });
+}
+
 struct Encoder {
     total: i64,
     /// Letter, second register and its place of the last pair.
     last: (char, u32, i64),
     cfa_written: bool,
     ra_written: bool,
-    out_of_reach: bool,
+    /// The first number out of reach.
+    out_of_reach: Option<&'static str>,
     text: String,
 }
 
@@ -118,29 +132,37 @@ impl Encoder {
             last: ('x', 0, 0),
             cfa_written: false,
             ra_written: false,
-            out_of_reach: false,
+            out_of_reach: None,
             text: String::new(),
+        }
+    }
+
+    fn lost(&mut self, lost: bool, why: &'static str) {
+        if lost {
+            self.out_of_reach.get_or_insert(why);
         }
     }
 
     fn line(&mut self, body: &Body, i: u64, operation: &Operation, tally: &mut Tally) {
         let address = u64::from(body.address) + 4 * i;
-        self.out_of_reach |= address > u64::from(u32::MAX);
+        self.lost(address > u64::from(u32::MAX), "6: arm64 line address");
         if i == 0 {
             write!(self.text, "STACK CFI INIT {address:x} {:x}", body.size).unwrap();
         } else {
             write!(self.text, "STACK CFI      {address:x}").unwrap();
         }
-        tally.note(if i == 0 { "line arm64 init" } else { "line arm64 later" });
+        tally.note(if i == 0 { "line INIT" } else { "line later, six spaces" });
         self.cfa_written = false;
         self.ra_written = false;
         self.operation(operation, tally);
         if i == 0 && !self.cfa_written {
             tally.note("arm64 default cfa");
+            tally.note("rule register");
             self.text.push_str(" .cfa: .sp");
         }
         if i == 0 && !self.ra_written {
             tally.note("arm64 default ra");
+            tally.note("rule register");
             self.text.push_str(" .ra: .x30");
         }
         self.text.push('\n');
@@ -151,64 +173,62 @@ impl Encoder {
             Allocate(value) => {
                 tally.note("arm64 allocate");
                 let value = self.value(*value);
-                self.allocate(value);
+                self.allocate(value, tally);
             }
             Single(save) => {
-                tally.note(&format!("arm64 save {}", save.letter));
+                note_saved(save.letter, ["arm64 save x", "arm64 save d", "arm64 save q"], tally);
                 let place = self.value(save.value) - self.total;
                 self.save(save.letter, save.register, place);
             }
             SinglePre(save) => {
-                tally.note(&format!("arm64 save pre {}", save.letter));
-                let place = self.pre_indexed(save.value);
+                note_saved(save.letter, ["arm64 save pre x", "arm64 save pre d", "arm64 save pre q"], tally);
+                let place = self.pre_indexed(save.value, tally);
                 self.save(save.letter, save.register, place);
             }
             Pair(save) => {
-                tally.note(&format!("arm64 pair {}", save.letter));
+                note_saved(save.letter, ["arm64 pair x", "arm64 pair d", "arm64 pair q"], tally);
                 let place = self.value(save.value) - self.total;
-                self.pair(save.letter, save.register, place);
+                self.pair(save.letter, save.register, place, tally);
             }
             PairPre(save) => {
-                tally.note(&format!("arm64 pair pre {}", save.letter));
-                let place = self.pre_indexed(save.value);
-                self.pair(save.letter, save.register, place);
+                note_saved(save.letter, ["arm64 pair pre x", "arm64 pair pre d", "arm64 pair pre q"], tally);
+                let place = self.pre_indexed(save.value, tally);
+                self.pair(save.letter, save.register, place, tally);
             }
             RegisterAndLr(save) => self.register_and_lr(save, tally),
-            Next => {
-                let (letter, register, place) = self.last;
-                tally.note(&format!("arm64 save next {letter}"));
-                self.pair(letter, register + 1, place + width(letter));
-            }
+            Next => self.save_next(tally),
             Other => {
                 tally.note("arm64 other");
-                self.allocate(0);
+                self.allocate(0, tally);
             }
             End | Undecodable => unreachable!("not counting"),
         }
     }
 
     fn value(&mut self, value: u32) -> i64 {
-        self.out_of_reach |= value >= 1 << 31;
+        self.lost(value >= 1 << 31, "6: arm64 value");
         i64::from(value)
     }
 
-    fn allocate(&mut self, value: i64) {
+    fn allocate(&mut self, value: i64, tally: &mut Tally) {
         self.total += value;
-        self.out_of_reach |= !in_reach(self.total);
+        self.lost(!in_reach(self.total), "6: arm64 total");
+        tally.note("rule register + number");
         self.cfa_written = true;
         write!(self.text, " .cfa: .sp {} +", self.total).unwrap();
     }
 
     /// The place of a pre-indexed save; writes the CFA and lets the total grow.
-    fn pre_indexed(&mut self, value: u32) -> i64 {
+    fn pre_indexed(&mut self, value: u32, tally: &mut Tally) -> i64 {
         let value = self.value(value);
         let place = -value - self.total;
-        self.allocate(value);
+        self.allocate(value, tally);
         place
     }
 
     fn save(&mut self, letter: char, register: u32, place: i64) {
-        self.out_of_reach |= register > 255 || !in_reach(place);
+        self.lost(register > 255, "6: arm64 register");
+        self.lost(!in_reach(place), "6: arm64 place");
         write!(self.text, " .{letter}{register}: .cfa {place} + ^").unwrap();
     }
 
@@ -217,14 +237,21 @@ impl Encoder {
         write!(self.text, " .ra: .cfa {place} + ^").unwrap();
     }
 
-    fn pair(&mut self, letter: char, register: u32, place: i64) {
+    fn pair(&mut self, letter: char, register: u32, place: i64, tally: &mut Tally) {
         let second = place + width(letter);
         self.save(letter, register, place);
         self.save(letter, register + 1, second);
         if letter == 'x' && register + 1 == LR {
+            tally.note("arm64 ra of a pair");
             self.return_address(second);
         }
         self.last = (letter, register + 1, second);
+    }
+
+    fn save_next(&mut self, tally: &mut Tally) {
+        let (letter, register, place) = self.last;
+        note_saved(letter, ["arm64 save next x", "arm64 save next d", "arm64 save next q"], tally);
+        self.pair(letter, register + 1, place + width(letter), tally);
     }
 
     fn register_and_lr(&mut self, save: &Save, tally: &mut Tally) {

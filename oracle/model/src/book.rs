@@ -26,16 +26,9 @@ pub struct Translated {
     pub text: Vec<u8>,
 }
 
-/// The outcome of a call with these buffers. A book of a kind not among `kinds` is refused 3.
-pub fn outcome(
-    book: &[u32],
-    limit: u32,
-    work: &[u8],
-    text: &[u8],
-    kinds: &[u32],
-    tally: &mut Tally,
-) -> Outcome {
-    let done = translate(book, limit, work.len(), text.len(), kinds, tally);
+/// The outcome of a call with these buffers.
+pub fn outcome(book: &[u32], limit: u32, work: &[u8], text: &[u8], tally: &mut Tally) -> Outcome {
+    let done = translate(book, limit, work.len(), text.len(), tally);
     let (mut work, mut text) = (work.to_vec(), text.to_vec());
     if done.number == 0 || done.number > 3 {
         work[..WORK].fill(0);
@@ -51,14 +44,7 @@ pub fn outcome(
 }
 
 /// The same without the buffers: only their lengths count.
-pub fn translate(
-    book: &[u32],
-    limit: u32,
-    work_len: usize,
-    text_len: usize,
-    kinds: &[u32],
-    tally: &mut Tally,
-) -> Translated {
+pub fn translate(book: &[u32], limit: u32, work_len: usize, text_len: usize, tally: &mut Tally) -> Translated {
     let refused = |number| Translated { number, entries: 0, text: Vec::new() };
     let done = if work_len < WORK {
         refused(1)
@@ -66,12 +52,31 @@ pub fn translate(
         refused(2)
     } else {
         match bodies(book) {
-            Some(bodies) if kinds.contains(&book[0]) => run(book[0], &bodies, limit, text_len, tally),
-            _ => refused(3),
+            Some(bodies) => run(book[0], &bodies, limit, text_len, tally),
+            None => refused(3),
         }
     };
-    tally.note(&format!("call {}", done.number));
+    tally.count(CALLED[done.number as usize]);
+    note_size(book, tally);
     done
+}
+
+const CALLED: [&str; 10] = [
+    "call 0", "call 1", "call 2", "call 3", "call 4", "call 5", "call 6", "call 7", "call 8", "call 9",
+];
+
+fn note_size(book: &[u32], tally: &mut Tally) {
+    match book.get(1) {
+        Some(0) => tally.count("book of 0 entries"),
+        Some(1024) => tally.count("book of 1024 entries"),
+        Some(1025) => tally.count("book of 1025 entries"),
+        _ => {}
+    }
+    match book.len() {
+        16384 => tally.count("book of 16384 words"),
+        16385 => tally.count("book of 16385 words"),
+        _ => {}
+    }
 }
 
 /// The bodies, where the book keeps the contents rules.
@@ -108,7 +113,7 @@ pub fn assemble(kind: u32, bodies: &[Vec<u32>]) -> Vec<u32> {
 
 fn run(kind: u32, bodies: &[&[u32]], limit: u32, text_len: usize, tally: &mut Tally) -> Translated {
     let mut done = Translated { number: 0, entries: 0, text: Vec::new() };
-    let mut last = None;
+    let mut last = pdb::Last::default();
     for body in bodies {
         let judged = match kind {
             X64 => x64::entry(body, limit, tally),
@@ -118,20 +123,60 @@ fn run(kind: u32, bodies: &[&[u32]], limit: u32, text_len: usize, tally: &mut Ta
         };
         match judged {
             Judged::Refused(number) => done.number = number,
-            Judged::Skipped(why) => tally.note(&format!("skip {why}")),
-            Judged::Text(text) if text.len() > WORK => done.number = 8,
+            Judged::Skipped(why) => tally.note(why),
+            Judged::Text(text) if text.len() > WORK => {
+                if text.len() == WORK + 1 {
+                    tally.count("entry of 8193 bytes");
+                }
+                done.number = 8;
+            }
             Judged::Text(text) if text.len() > text_len - done.text.len() => done.number = 9,
             Judged::Text(text) => {
-                if text.len() == WORK {
-                    tally.note("entry of 8192 bytes");
-                }
+                note_written(kind, text.len(), tally);
                 done.text.extend(text.bytes());
             }
         }
+        tally.entry_ends(done.number == 0);
         if done.number != 0 {
+            note_refused(kind, done.number, tally);
             break;
         }
         done.entries += 1;
     }
     done
+}
+
+fn note_written(kind: u32, length: usize, tally: &mut Tally) {
+    tally.note(match kind {
+        X64 => "x64 entry written",
+        ARM64 => "arm64 entry written",
+        DWARF => "dwarf entry written",
+        _ => "pdb entry written",
+    });
+    if length == WORK {
+        tally.note("entry of 8192 bytes");
+    }
+}
+
+fn note_refused(kind: u32, number: u32, tally: &mut Tally) {
+    tally.count(match (kind, number) {
+        (X64, 4) => "x64 refused 4",
+        (X64, 5) => "x64 refused 5",
+        (X64, 6) => "x64 refused 6",
+        (X64, 7) => "x64 refused 7",
+        (X64, 8) => "x64 refused 8",
+        (X64, _) => "x64 refused 9",
+        (ARM64, 4) => "arm64 refused 4",
+        (ARM64, 6) => "arm64 refused 6",
+        (ARM64, 8) => "arm64 refused 8",
+        (ARM64, _) => "arm64 refused 9",
+        (DWARF, 4) => "dwarf refused 4",
+        (DWARF, 6) => "dwarf refused 6",
+        (DWARF, 8) => "dwarf refused 8",
+        (DWARF, _) => "dwarf refused 9",
+        (_, 4) => "pdb refused 4",
+        (_, 6) => "pdb refused 6",
+        (_, 8) => "pdb refused 8",
+        (_, _) => "pdb refused 9",
+    });
 }

@@ -3,11 +3,13 @@
 
 pub mod arm64;
 pub mod book;
+pub mod due;
 pub mod dwarf;
 pub mod gen;
 pub mod names;
 pub mod pdb;
 pub mod rng;
+pub mod run;
 pub mod shrink;
 pub mod tally;
 pub mod words;

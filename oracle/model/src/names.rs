@@ -1,5 +1,7 @@
 //! Register names: the six tables of the source and Microsoft's x64 numbering.
 
+use std::sync::OnceLock;
+
 /// PE x64: 0 to 15.
 pub const PE_X64: [&str; 16] = [
     "$rax", "$rcx", "$rdx", "$rbx", "$rsp", "$rbp", "$rsi", "$rdi", "$r8", "$r9", "$r10", "$r11", "$r12",
@@ -89,23 +91,24 @@ impl Part {
     }
 }
 
+type Table = Vec<Option<String>>;
+
 /// The name of a register of a family, numbered as `CpuFamily`.
-pub fn name_of(family: u32, register: u16) -> Option<String> {
-    let table = match family {
+pub fn name_of(family: u32, register: u16) -> Option<&'static str> {
+    static TABLES: OnceLock<Vec<Table>> = OnceLock::new();
+    let tables = TABLES.get_or_init(|| (0..=10).map(table_of).collect());
+    tables.get(family as usize)?.get(usize::from(register))?.as_deref()
+}
+
+fn table_of(family: u32) -> Table {
+    let parts = match family {
         1 => I386,
         2 => X86_64,
         3 => ARM,
         4 | 9 => ARM64,
         5 | 6 => PPC,
         7 | 8 => MIPS,
-        _ => return None,
+        _ => &[],
     };
-    let mut i = usize::from(register);
-    for part in table {
-        if i < part.len() {
-            return part.name(i);
-        }
-        i -= part.len();
-    }
-    None
+    parts.iter().flat_map(|part| (0..part.len()).map(|i| part.name(i))).collect()
 }

@@ -34,27 +34,41 @@ pub struct Key {
     prolog_size: u32,
 }
 
-/// `last` is the key of the last entry not skipped.
-pub fn entry(body: &[u32], last: &mut Option<Key>, tally: &mut Tally) -> Judged {
-    let Some(body) = layout(body) else {
+/// What the entries before leave to an entry.
+#[derive(Default)]
+pub struct Last {
+    /// The key of the last entry not skipped.
+    key: Option<Key>,
+    /// Whether one was skipped by its size behind it, for the table alone.
+    skipped: bool,
+}
+
+pub fn entry(body: &[u32], last: &mut Last, tally: &mut Tally) -> Judged {
+    let Some(body) = layout(body, tally) else {
         return Judged::Refused(4);
     };
     let key = body.key;
     if key.code_size > MOST_CODE_SIZE {
-        return Judged::Skipped("pdb code size");
+        last.skipped = true;
+        return Judged::Skipped("skip pdb code size");
     }
-    if *last == Some(key) {
-        return Judged::Skipped("pdb repeat");
+    if last.key == Some(key) {
+        if last.skipped {
+            tally.note("pdb repeat behind a skip by size");
+        }
+        return Judged::Skipped("skip pdb repeat");
     }
-    let beyond = |size: u32| key.start.checked_add(size).is_none();
-    if beyond(key.prolog_size) || beyond(key.code_size) {
-        return Judged::Refused(6);
+    for (size, why) in [(key.prolog_size, "6: pdb prolog size"), (key.code_size, "6: pdb code size")] {
+        if key.start.checked_add(size).is_none() {
+            tally.count(why);
+            return Judged::Refused(6);
+        }
     }
-    *last = Some(key);
+    *last = Last { key: Some(key), skipped: false };
     Judged::Text(body.lines(tally))
 }
 
-fn layout(body: &[u32]) -> Option<Body> {
+fn layout(body: &[u32], tally: &mut Tally) -> Option<Body> {
     let mut words = Words(body);
     let kind = words.upto(MOST_TYPE)?;
     let (start, code_size) = (words.any()?, words.any()?);
@@ -68,7 +82,7 @@ fn layout(body: &[u32]) -> Option<Body> {
     if length > 0 && !(has_program && has_table) {
         return None;
     }
-    let (prolog, code) = (ranges(&mut words, prologs)?, ranges(&mut words, codes)?);
+    let (prolog, code) = (ranges(&mut words, prologs, tally)?, ranges(&mut words, codes, tally)?);
     let program = words.many(length, |w| w.any().filter(|c| (32..=126).contains(c)))?;
     words.end()?;
     Some(Body {
@@ -87,8 +101,11 @@ fn layout(body: &[u32]) -> Option<Body> {
 }
 
 /// Ranges sorted by start.
-fn ranges(words: &mut Words, count: u32) -> Option<Vec<Range<u32>>> {
+fn ranges(words: &mut Words, count: u32, tally: &mut Tally) -> Option<Vec<Range<u32>>> {
     let mut ranges = words.many(count, |w| Some(w.any()?..w.any()?))?;
+    if !ranges.is_sorted_by_key(|range| range.start) {
+        tally.note("pdb ranges out of order");
+    }
     ranges.sort_by_key(|range| range.start);
     let ordered = ranges.iter().all(|range| range.start <= range.end);
     let differ = ranges.windows(2).all(|two| two[0].start != two[1].start);
@@ -105,7 +122,11 @@ impl Body {
                 self.line(&mut text, prolog.start..code.end, size, tally);
             }
             (prologs, codes) => {
-                tally.note(if prologs.len() + codes.len() == 0 { "pdb no range" } else { "pdb ranges apart" });
+                tally.note(match prologs.len() + codes.len() {
+                    0 => "pdb no range",
+                    1 => "pdb ranges apart: 1",
+                    _ => "pdb ranges apart: more",
+                });
                 for range in prologs {
                     self.line(&mut text, range.clone(), range.end - range.start, tally);
                 }
@@ -118,7 +139,8 @@ impl Body {
     }
 
     fn line(&self, text: &mut String, range: Range<u32>, prolog_size: u32, tally: &mut Tally) {
-        tally.note("line pdb win");
+        tally.note("line WIN");
+        tally.note(if self.max_stack.is_some() { "pdb max stack" } else { "pdb no max stack" });
         if range.is_empty() {
             tally.note("pdb empty range");
         }
@@ -137,15 +159,22 @@ impl Body {
         for field in fields {
             write!(text, " {field:x}").unwrap();
         }
-        let (form, flag, tail) = match (self.has_program, self.has_table) {
-            (true, true) => ("pdb program", 1, self.program.trim_matches(' ').to_string()),
-            (true, false) => ("pdb program without table", 0, String::new()),
-            (false, _) => ("pdb base pointer", 0, self.base_pointer.to_string()),
+        let (flag, tail) = match (self.has_program, self.has_table) {
+            (true, true) => (1, self.program.trim_matches(' ').to_string()),
+            (true, false) => (0, String::new()),
+            (false, _) => (0, self.base_pointer.to_string()),
         };
-        tally.note(form);
-        if tail.len() < self.program.len() {
-            tally.note(if tail.is_empty() { "pdb program all spaces" } else { "pdb program trimmed" });
-        }
+        tally.note(self.tail_form(&tail));
         writeln!(text, " {flag} {tail}").unwrap();
+    }
+    fn tail_form(&self, tail: &str) -> &'static str {
+        match (self.has_program, self.has_table, self.base_pointer) {
+            (true, true, _) if tail.is_empty() => "pdb flag 1, program empty",
+            (true, true, _) if tail.len() < self.program.len() => "pdb flag 1, program trimmed",
+            (true, true, _) => "pdb flag 1, program",
+            (true, false, _) => "pdb flag 0, program without table",
+            (false, _, 0) => "pdb flag 0, base pointer 0",
+            (false, _, _) => "pdb flag 0, base pointer 1",
+        }
     }
 }

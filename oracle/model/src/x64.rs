@@ -42,6 +42,9 @@ pub fn entry(body: &[u32], limit: u32, tally: &mut Tally) -> Judged {
         return Judged::Skipped(why);
     }
     if body.infos.len() > limit as usize {
+        if body.infos.iter().any(undecodable) {
+            tally.count("x64 undecodable behind the limit");
+        }
         return Judged::Refused(5);
     }
     let mut run = Run::new();
@@ -50,12 +53,18 @@ pub fn entry(body: &[u32], limit: u32, tally: &mut Tally) -> Judged {
             run.operation(info, operation, tally);
         }
     }
-    if run.out_of_reach {
+    if let Some(why) = run.out_of_reach {
+        tally.count(why);
         return Judged::Refused(6);
     }
     if run.cfa.len() > 1 {
         return Judged::Refused(7);
     }
+    tally.note(match body.infos.len() {
+        1 => "x64 infos: 1",
+        2..=31 => "x64 infos: 2 to 31",
+        _ => "x64 infos: 32",
+    });
     Judged::Text(run.line(&body, tally))
 }
 
@@ -92,14 +101,17 @@ fn operation(words: &mut Words) -> Option<Operation> {
     })
 }
 
+fn undecodable(info: &Info) -> bool {
+    info.operations.iter().any(|o| matches!(o, Undecodable))
+}
+
 fn skipped(body: &Body, limit: u32) -> Option<&'static str> {
-    let undecodable = |info: &Info| info.operations.iter().any(|o| matches!(o, Undecodable));
     if (body.begin, body.end, body.address) == (0, 0, 0) {
-        Some("x64 all zero")
+        Some("skip x64 all zero")
     } else if body.end < body.begin {
-        Some("x64 end below begin")
+        Some("skip x64 end below begin")
     } else if body.infos.iter().take(limit as usize).any(undecodable) {
-        Some("x64 undecodable")
+        Some("skip x64 undecodable")
     } else {
         None
     }
@@ -111,7 +123,8 @@ struct Run {
     cfa: Vec<String>,
     rules: String,
     machine_frame: bool,
-    out_of_reach: bool,
+    /// The first number out of reach.
+    out_of_reach: Option<&'static str>,
 }
 
 impl Run {
@@ -121,24 +134,30 @@ impl Run {
             cfa: Vec::new(),
             rules: String::new(),
             machine_frame: false,
-            out_of_reach: false,
+            out_of_reach: None,
+        }
+    }
+
+    fn lost(&mut self, lost: bool, why: &'static str) {
+        if lost {
+            self.out_of_reach.get_or_insert(why);
         }
     }
 
     fn grow(&mut self, by: i64) {
         self.total += by;
-        self.out_of_reach |= !in_reach(self.total);
+        self.lost(!in_reach(self.total), "6: x64 total");
     }
 
     /// A place that is printed.
     fn place(&mut self, n: i64) -> i64 {
-        self.out_of_reach |= !in_reach(n);
+        self.lost(!in_reach(n), "6: x64 place");
         n
     }
 
     /// A value that is used.
     fn value(&mut self, value: u32) -> i64 {
-        self.out_of_reach |= value >= 1 << 31;
+        self.lost(value >= 1 << 31, "6: x64 value");
         i64::from(value)
     }
 
@@ -149,7 +168,7 @@ impl Run {
             Push(register) => {
                 tally.note("x64 push");
                 self.grow(8);
-                self.save_below_cfa(register, self.total);
+                self.save_below_cfa(register, self.total, tally);
             }
             Allocate(value) => {
                 tally.note("x64 allocate");
@@ -158,12 +177,13 @@ impl Run {
             }
             SaveRsp(register, value) => {
                 let place = self.total - self.value(value);
-                tally.note(if place < 0 { "x64 save out of frame" } else { "x64 save rsp" });
-                self.save_below_cfa(register, place);
+                tally.note(if place < 0 { "x64 save rsp above the CFA" } else { "x64 save rsp" });
+                self.save_below_cfa(register, place, tally);
             }
             SaveFp(register, value) => {
-                tally.note("x64 save fp");
                 let place = self.value(value) - frame_offset;
+                tally.note(if place < 0 { "x64 save fp below the register" } else { "x64 save fp" });
+                tally.note("rule at register + number");
                 let place = self.place(place);
                 let name = PE_X64[register as usize];
                 write!(self.rules, " {name}: {frame} {place} + ^").unwrap();
@@ -179,14 +199,15 @@ impl Run {
         }
     }
 
-    fn save_below_cfa(&mut self, register: u32, place: i64) {
+    fn save_below_cfa(&mut self, register: u32, place: i64, tally: &mut Tally) {
+        tally.note("rule at CFA - number");
         let place = self.place(place);
         let name = PE_X64[register as usize];
         write!(self.rules, " {name}: .cfa {place} - ^").unwrap();
     }
 
     fn machine_frame(&mut self, error_code: bool, tally: &mut Tally) {
-        tally.note(if error_code { "x64 machine frame, code" } else { "x64 machine frame" });
+        tally.note(if error_code { "x64 machine frame, error code" } else { "x64 machine frame" });
         let rsp = self.place(self.total + 16);
         let ra = self.place(self.total + 40);
         write!(self.rules, " $rsp: .cfa {rsp} - ^ .ra: .cfa {ra} - ^").unwrap();
@@ -198,7 +219,8 @@ impl Run {
     }
 
     fn line(self, body: &Body, tally: &mut Tally) -> String {
-        tally.note("line x64 init");
+        tally.note("line INIT");
+        tally.note("rule register + number");
         let (begin, size) = (body.begin, body.end - body.begin);
         let cfa = match self.cfa.first() {
             Some(cfa) => cfa.clone(),

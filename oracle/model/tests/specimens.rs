@@ -1,10 +1,10 @@
 //! The specimens of document 01, and what its refusal list says of single books.
 
 use model::book::{assemble, WORK};
-use model::{outcome, translate, Tally, Translated, ALL_KINDS, ARM64, DWARF, PDB, X64};
+use model::{outcome, translate, Tally, Translated, ARM64, DWARF, PDB, X64};
 
 fn call(book: &[u32], limit: u32) -> Translated {
-    translate(book, limit, WORK, usize::MAX, ALL_KINDS, &mut Tally::default())
+    translate(book, limit, WORK, usize::MAX, &mut Tally::default())
 }
 
 fn one(kind: u32, body: &[u32]) -> Translated {
@@ -111,7 +111,7 @@ fn no_entries() {
     let done = call(&[1, 0], 32);
     assert_eq!((done.number, done.entries, done.text.len()), (0, 0, 0));
     let bytes = [7u8; 8200];
-    let after = outcome(&[1, 0], 32, &bytes, &bytes, ALL_KINDS, &mut Tally::default());
+    let after = outcome(&[1, 0], 32, &bytes, &bytes, &mut Tally::default());
     assert_eq!((&after.work[WORK - 1..WORK + 1], &after.text[..]), (&[0, 7][..], &bytes[..]));
 }
 
@@ -135,7 +135,7 @@ fn refusals_that_touch_nothing() {
         (&[1], 32, 8192, 3),
         (&[1, 0, 0], 32, 8192, 3),
     ] {
-        let after = outcome(book, limit, &bytes[..work], &bytes, ALL_KINDS, &mut Tally::default());
+        let after = outcome(book, limit, &bytes[..work], &bytes, &mut Tally::default());
         assert_eq!((after.number, after.entries, after.length), (number, 0, 0));
         assert!(after.work == bytes[..work] && after.text == bytes);
     }

@@ -1,8 +1,9 @@
 //! The port's call, with a fence of known bytes on both sides of every buffer.
 
+use model::book::WORK;
 use model::gen::Case;
 use model::rng::Rng;
-use model::Outcome;
+use model::{outcome, Outcome, Tally};
 
 extern "C" {
     fn stacklines_translate(
@@ -158,4 +159,44 @@ pub fn differences(case: &Case, due: &Outcome, called: &Called) -> Vec<String> {
 
 fn first_difference(a: &[u8], b: &[u8]) -> Option<usize> {
     a.iter().zip(b).position(|(x, y)| x != y)
+}
+
+/// What differs between a call of the port and the model's outcome.
+pub fn against_model(case: &Case, tally: &mut Tally) -> Vec<String> {
+    let (work, text) = (filling(1, case.work_len), filling(2, case.text_len));
+    let due = outcome(&case.book, case.limit, &work, &text, tally);
+    differences(case, &due, &call(case, &work, &text))
+}
+
+/// Notes the limit and the lengths of the buffers.
+pub fn note_call(case: &Case, tally: &mut Tally) {
+    tally.count(match case.limit {
+        0 => "limit 0",
+        1..=31 => "limit 1 to 31",
+        32 => "limit 32",
+        33 => "limit 33",
+        _ => "limit above 33",
+    });
+    tally.count(match case.work_len {
+        0 => "work area 0",
+        WORK => "work area 8192",
+        n if n + 1 == WORK => "work area 8191",
+        n if n < WORK => "work area 1 to 8190",
+        n if n == WORK + 1 => "work area 8193",
+        _ => "work area longer",
+    });
+    tally.count(match (case.text_len, case.need) {
+        (n, need) if n == need => "text buffer exact",
+        (0, _) => "text buffer 0",
+        (n, need) if n + 1 == need => "text buffer one short",
+        (n, need) if n < need => "text buffer shorter",
+        (n, need) if n == need + 1 => "text buffer one over",
+        _ => "text buffer longer",
+    });
+    tally.count(match case.counts_len {
+        0 => "counts 0",
+        1 => "counts 1",
+        2 => "counts 2",
+        _ => "counts more",
+    });
 }

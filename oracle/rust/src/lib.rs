@@ -8,7 +8,7 @@ mod pdb;
 mod x64;
 
 use model::book::{assemble, bodies};
-use model::{translate, Tally, Translated, ALL_KINDS, ARM64, DWARF, X64};
+use model::{translate, Tally, Translated, ARM64, DWARF, X64};
 use symbolic_cfi::{AsciiCfiWriter, CfiErrorKind};
 use symbolic_debuginfo::Object;
 
@@ -73,7 +73,7 @@ fn process(object: &Object, limit: Option<usize>) -> Answer {
 /// one is looked at; or the entries before one refused otherwise. With it the model's answer to that part.
 /// None where not even the contents rules hold.
 pub fn in_domain(book: &[u32], limit: u32, tally: &mut Tally) -> Option<(Vec<u32>, Translated)> {
-    let mut done = translate(book, limit, usize::MAX, usize::MAX, ALL_KINDS, tally);
+    let mut done = translate(book, limit, usize::MAX, usize::MAX, tally);
     let part = match done.number {
         0 => return Some((book.to_vec(), done)),
         1..=3 => return None,

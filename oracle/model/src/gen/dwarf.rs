@@ -201,7 +201,7 @@ fn rules(rng: &mut Rng, pool: &[u32]) -> Vec<(u32, u32, i64)> {
 fn disturb(rng: &mut Rng, entry: &mut Entry) {
     let row = rng.index(entry.rows.len());
     match rng.below(16) {
-        0 => entry.initial = u64::MAX,
+        0 => entry.initial = rng.pick(&[u64::MAX, u64::MAX, u64::MAX - 1, u64::MAX << 32, u64::MAX >> 32]),
         1 => entry.rows.clear(),
         2 => entry.load = entry.rows[0].start.wrapping_add(1),
         3 => entry.load = entry.rows[0].start,
@@ -211,7 +211,7 @@ fn disturb(rng: &mut Rng, entry: &mut Entry) {
         7 => entry.return_register = rng.pick(&[65534, 65535, 65536, 5000]),
         8 => entry.rows.iter_mut().for_each(|row| row.start = entry.load),
         9 => entry.family = rng.pick(&[0, 10, 11]),
-        10 => entry.rows[row].cfa = (rng.pick(&[1, 2]), 70_000, 0),
+        10 => entry.rows[row].cfa = (rng.pick(&[0, 0, 1, 2]), rng.pick(&[65535, 65536, 70_000]), 0),
         11 => entry.rows[row].rules.push((rng.pick(&[65535, 65536]), rng.pick(&[OTHER, 5]), -1)),
         12 => entry.rows[row].rules.push((77, REGISTER, rng.pick(&[65535, 65536, 1 << 32, -1]))),
         13 => {

@@ -8,7 +8,7 @@ mod x64;
 
 use crate::book::{assemble, MOST_WORDS, WORK};
 use crate::rng::Rng;
-use crate::{translate, Tally, ALL_KINDS, ARM64, DWARF, PDB, X64};
+use crate::{translate, Tally, ARM64, DWARF, PDB, X64};
 
 pub use dwarf::every_name;
 
@@ -19,29 +19,26 @@ pub struct Case {
     pub limit: u32,
     pub work_len: usize,
     pub text_len: usize,
+    /// The length of the text that there would be with room for it.
+    pub need: usize,
     pub counts_len: usize,
 }
 
-/// Kinds as written in a command: "1,2".
-pub fn kinds(list: &str) -> Vec<u32> {
-    list.split(',').map(|kind| kind.parse().expect("KINDS")).collect()
-}
-
-/// One call; its book is of one of these kinds, or rarely of another.
+/// One call; its book is of one of these kinds.
 pub fn case(rng: &mut Rng, kinds: &[u32]) -> Case {
-    let kind = if rng.one_in(50) { rng.pick(ALL_KINDS) } else { rng.pick(kinds) };
+    let kind = rng.pick(kinds);
     let book = book(rng, kind);
     let limit = limit(rng);
     let work_len = match rng.below(12) {
-        0 => rng.pick(&[0, 1, WORK - 1]),
+        0 => rng.pick(&[0, 1, 4096, WORK - 1]),
         1 => WORK + 1,
-        2 => WORK + rng.index(300),
+        2 => WORK + rng.pick(&[2, 300, 8192, 57_344]),
         _ => WORK,
     };
-    let whole = translate(&book, limit, WORK, usize::MAX, kinds, &mut Tally::default());
-    let text_len = text_len(rng, whole.text.len());
-    let counts_len = rng.pick(&[2, 2, 2, 2, 2, 0, 1, 3]);
-    Case { book, limit, work_len, text_len, counts_len }
+    let need = translate(&book, limit, WORK, usize::MAX, &mut Tally::default()).text.len();
+    let text_len = text_len(rng, need);
+    let counts_len = rng.pick(&[2, 2, 2, 2, 2, 0, 1, 3, 9]);
+    Case { book, limit, work_len, text_len, need, counts_len }
 }
 
 fn limit(rng: &mut Rng) -> u32 {
@@ -133,6 +130,9 @@ fn many_entries(rng: &mut Rng, kind: u32) -> Vec<u32> {
     assemble(kind, &bodies)
 }
 
+/// More bytes than one step of `longer` adds.
+const LONGEST_RULE: usize = 64;
+
 /// Changes `body` so that its text has `target` bytes: `longer` adds a rule, `shorter` takes a byte away.
 fn tune(
     kind: u32,
@@ -143,8 +143,11 @@ fn tune(
 ) -> Vec<u32> {
     let mut added = 0;
     while text_of(kind, &body) < target && added < 2000 {
-        longer(&mut body, added);
-        added += 1;
+        let short = target - text_of(kind, &body);
+        for _ in 0..(short / LONGEST_RULE).max(1) {
+            longer(&mut body, added);
+            added += 1;
+        }
     }
     let over = text_of(kind, &body).saturating_sub(target);
     for i in 0..over.min(100) {
@@ -160,7 +163,7 @@ fn text_of(kind: u32, body: &[u32]) -> usize {
         X64 => crate::x64::entry(body, 32, &mut tally),
         ARM64 => crate::arm64::entry(body, &mut tally),
         DWARF => crate::dwarf::entry(body, &mut tally),
-        _ => crate::pdb::entry(body, &mut None, &mut tally),
+        _ => crate::pdb::entry(body, &mut Default::default(), &mut tally),
     };
     match judged {
         crate::Judged::Text(text) => text.len(),

@@ -90,12 +90,18 @@ fn function(rng: &mut Rng) -> Entry {
     }
 }
 
-/// The key of an entry before this one, mostly of the last.
+/// The key of an entry before this one: mostly of the last, or of the one before an entry that is skipped by its size.
 fn repeat(rng: &mut Rng, before: &[Vec<u32>], entry: &mut Entry) {
     if before.is_empty() {
         return;
     }
-    let i = if rng.one_in(2) { before.len() - 1 } else { rng.index(before.len()) };
+    let last = before.len() - 1;
+    let oversized = before[last].get(2).is_some_and(|&size| size > 0x7fff_ffff);
+    let i = match rng.below(2) {
+        0 if oversized => last.saturating_sub(1),
+        0 => last,
+        _ => rng.index(before.len()),
+    };
     let Some(key) = before[i].get(..KEY) else {
         return;
     };

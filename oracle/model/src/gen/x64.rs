@@ -40,7 +40,8 @@ pub fn body(rng: &mut Rng) -> Vec<u32> {
             let infos = chain(rng, 33);
             stored(lead, &infos)
         }
-        15..=17 => stored(lead, &at_limit(rng)),
+        15 => stored(lead, &at_edge(rng)),
+        16 | 17 => stored(lead, &at_limit(rng)),
         18 => stored(lead, &[crowded(rng)]),
         19 | 20 => stored(lead, &undecodable(rng)),
         21 => stored(lead, &set_twice(rng)),
@@ -118,7 +119,11 @@ fn operations(rng: &mut Rng, most: u32) -> Vec<Operation> {
 }
 
 fn chain(rng: &mut Rng, most: u32) -> Vec<Info> {
-    let count = rng.from_to(if most > 32 { 0 } else { 1 }, most);
+    let count = match rng.below(4) {
+        0 if most > 32 => rng.from_to(31, 33),
+        1 if most > 32 => rng.below(2),
+        _ => rng.from_to(1, most),
+    };
     let most_operations = if most > 4 { 3 } else { 8 };
     let mut infos: Vec<Info> = (0..count)
         .map(|_| Info(rng.below(16), rng.below(241), operations(rng, most_operations)))
@@ -165,6 +170,21 @@ fn at_limit(rng: &mut Rng) -> Vec<Info> {
         return vec![Info(register, offset, operations), Info(register, offset, rest)];
     }
     vec![Info(register, offset, operations)]
+}
+
+/// A word of an info at the end of its range, or just outside.
+fn at_edge(rng: &mut Rng) -> Vec<Info> {
+    let mut infos = chain(rng, 3);
+    let i = rng.index(infos.len());
+    let info = &mut infos[i];
+    match rng.below(5) {
+        0 => info.0 = rng.pick(&[15, 16]),
+        1 => info.1 = rng.pick(&[240, 241]),
+        2 => info.2.push([rng.pick(&[0, OTHER, 9]), rng.word(), rng.word()]),
+        3 => info.2.push([MACHINE_FRAME, rng.word(), rng.pick(&[1, 2])]),
+        _ => info.2.push([rng.pick(&[PUSH, SAVE_RSP, SAVE_FP]), rng.pick(&[15, 16]), rng.below(64)]),
+    }
+    infos
 }
 
 /// As many operations as an info may have, or one more.

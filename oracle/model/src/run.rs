@@ -1,0 +1,61 @@
+//! What the comparing programs share: the words of the command, the counts, the coverage table and the last line.
+
+use crate::{Tally, ALL_KINDS};
+
+/// Books that are shown where something differs.
+const MOST_SHOWN: u64 = 5;
+/// From so many books on, of all kinds, everything that is due must have occurred.
+const ENOUGH: u64 = 20_000;
+
+/// The words of a command: SEED N [KINDS], the kinds as numbers with commas; without them all four.
+pub struct Arguments {
+    pub seed: u64,
+    pub count: u64,
+    pub kinds: Vec<u32>,
+}
+
+pub fn arguments() -> Arguments {
+    let words: Vec<String> = std::env::args().collect();
+    let number = |i: usize, what: &str| words.get(i).and_then(|w| w.parse().ok()).expect(what);
+    let kinds = words.get(3).map_or(ALL_KINDS.to_vec(), |list| {
+        list.split(',').map(|kind| kind.parse().expect("KINDS are numbers with commas")).collect()
+    });
+    Arguments { seed: number(1, "SEED is a number"), count: number(2, "N is a number"), kinds }
+}
+
+#[derive(Default)]
+pub struct Run {
+    pub tally: Tally,
+    passed: u64,
+    failed: u64,
+}
+
+impl Run {
+    /// One comparison; `show` prints a book that differs.
+    pub fn compared(&mut self, differs: bool, show: impl FnOnce()) {
+        if !differs {
+            self.passed += 1;
+            return;
+        }
+        self.failed += 1;
+        if self.failed <= MOST_SHOWN {
+            show();
+        }
+    }
+
+    /// Prints the table and the counts, and ends the program. What is due and never occurred is a failure.
+    pub fn end(mut self, words: &Arguments, due: &[&[&str]]) -> ! {
+        self.tally.print();
+        let due = due.concat();
+        if words.count >= ENOUGH && ALL_KINDS.iter().all(|kind| words.kinds.contains(kind)) {
+            let missing = self.tally.missing(&due);
+            self.passed += (due.len() - missing.len()) as u64;
+            self.failed += missing.len() as u64;
+            for what in missing {
+                println!("never occurred: {what}");
+            }
+        }
+        println!("{} passed, {} failed", self.passed, self.failed);
+        std::process::exit(i32::from(self.failed > 0));
+    }
+}
