@@ -18,6 +18,7 @@ fn main() {
         eprintln!("Run `make lib` in the repository, or set STACKLINES_LIB to the folder that holds libtranslate.a.");
         exit(1);
     }
+    let folder = folder.canonicalize().expect("the folder is there");
     println!("cargo:rustc-link-search=native={}", folder.display());
     println!("cargo:rustc-link-lib=static=translate");
 }
