@@ -8,8 +8,7 @@ fn main() {
     println!("cargo:rerun-if-env-changed=STACKLINES_LIB");
     let folder = match env::var_os("STACKLINES_LIB") {
         Some(folder) => PathBuf::from(folder),
-        None => Path::new(&env::var_os("CARGO_MANIFEST_DIR").expect("cargo sets it"))
-            .join("../../target/staticlib"),
+        None => Path::new(&env::var_os("CARGO_MANIFEST_DIR").expect("cargo sets it")).join("../../target/staticlib"),
     };
     let archive = folder.join("libtranslate.a");
     println!("cargo:rerun-if-changed={}", archive.display());

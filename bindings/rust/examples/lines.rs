@@ -12,12 +12,10 @@ fn main() -> io::Result<()> {
         println!("refused 3");
         return Ok(());
     }
-    let words: Vec<u32> = whole
-        .map(|word| u32::from_le_bytes(word.try_into().expect("four bytes")))
-        .collect();
+    let words: Vec<u32> = whole.map(|word| u32::from_le_bytes(word.try_into().expect("four bytes"))).collect();
     match translate(&words, NO_LIMIT) {
         Ok(text) => print!("{text}"),
-        Err(refused) => print!("{}refused {}\n", refused.done(), refused.number()),
+        Err(refused) => println!("{}refused {}", refused.done(), refused.number()),
     }
     Ok(())
 }

@@ -19,10 +19,21 @@ extern "C" {
     ) -> u32;
 }
 
-/// What a call gives: its number, and what is done.
+/// What a call gives: its number, and the buffer with the lines of the entries done.
 pub(crate) struct Called {
     pub number: u32,
-    pub done: Text,
+    entries: usize,
+    length: usize,
+    text: Vec<u8>,
+}
+
+impl Called {
+    /// The lines alone.
+    pub fn done(mut self) -> Text {
+        self.text.truncate(self.length);
+        self.text.shrink_to_fit();
+        Text::new(self.text, self.entries)
+    }
 }
 
 /// Translates into a buffer of `room` bytes.
@@ -47,10 +58,5 @@ pub(crate) fn call(book: &[u32], limit: u32, room: usize) -> Called {
     };
     // The counts are those of entries and of bytes in the buffer, so they fit.
     let [entries, length] = counts.map(|count| count as usize);
-    text.truncate(length);
-    text.shrink_to_fit();
-    Called {
-        number,
-        done: Text::new(text, entries),
-    }
+    Called { number, entries, length, text }
 }

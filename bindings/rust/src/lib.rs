@@ -56,8 +56,9 @@ pub const NO_LIMIT: u32 = 32;
 /// The most bytes that the text of a book can have: 1,024 entries of 8,192 bytes.
 pub const MOST_TEXT: usize = book::MOST_ENTRIES * call::WORK;
 
-/// The bytes of the first buffer for the text; few books need more.
-const FIRST_ROOM: usize = 1 << 16;
+/// The least bytes of the first buffer for the text, and its bytes for each word of the book. Few books need more.
+const FIRST_ROOM: usize = 1024;
+const BYTES_A_WORD: usize = 16;
 
 /// How much larger the next buffer is than one that was too short.
 const GROWTH: usize = 4;
@@ -88,10 +89,7 @@ pub struct Translator {
 
 impl Default for Translator {
     fn default() -> Self {
-        Translator {
-            limit: NO_LIMIT,
-            most_bytes: MOST_TEXT,
-        }
+        Translator { limit: NO_LIMIT, most_bytes: MOST_TEXT }
     }
 }
 
@@ -113,19 +111,24 @@ impl Translator {
 
     /// Translates a book.
     ///
-    /// A buffer that is too short for the text is replaced by one four times as long, up to the bound: there are at most
-    /// five calls, and all buffers together have less than two and a half times the bytes of the last.
-    /// [`Refusal::Room`] comes only from the bound.
+    /// The first buffer for the text is sized by the book. One that is too short is replaced by one four times as long, up
+    /// to the bound: there are at most eight calls, mostly one, and all buffers together have less than two and a half
+    /// times the bytes of the last. [`Refusal::Room`] comes only from the bound.
     pub fn translate(&self, book: &[u32]) -> Result<Text, Refused> {
         let most = self.most_bytes.min(MOST_TEXT);
-        let mut room = most.min(FIRST_ROOM);
+        let mut room = book.len().saturating_mul(BYTES_A_WORD).max(FIRST_ROOM).min(most);
         loop {
             let called = call::call(book, self.limit, room);
             match Refusal::from_number(called.number) {
-                None => return Ok(called.done),
+                None => return Ok(called.done()),
                 Some(Refusal::Room) if room < most => room = room.saturating_mul(GROWTH).min(most),
-                Some(refusal) => return Err(Refused::new(refusal, called.done)),
+                Some(refusal) => return Err(Refused::new(refusal, called.done())),
             }
         }
     }
 }
+
+/// Lets the example of README.md be tested.
+#[cfg(doctest)]
+#[doc = include_str!("../README.md")]
+struct Readme;

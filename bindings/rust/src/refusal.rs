@@ -30,9 +30,7 @@ pub enum Refusal {
 use Refusal::*;
 
 /// The refusals by number, from 1.
-const REFUSALS: [Refusal; 9] = [
-    Work, Limit, Contents, Layout, Chain, Reach, Frame, Long, Room,
-];
+const REFUSALS: [Refusal; 9] = [Work, Limit, Contents, Layout, Chain, Reach, Frame, Long, Room];
 
 impl Refusal {
     /// The refusal of a call's number, none for 0.

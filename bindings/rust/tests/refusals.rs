@@ -16,10 +16,7 @@ fn check(refused: Refused, refusal: Refusal, number: u32, entry: Option<usize>, 
     assert_eq!(refused.done().entries(), entry.unwrap_or(0));
     assert_eq!(refused.done().as_str(), done);
     let message = refused.to_string();
-    assert!(
-        message.starts_with(&format!("refused {number}")),
-        "{message}"
-    );
+    assert!(message.starts_with(&format!("refused {number}")), "{message}");
     assert!(message.ends_with(&refusal.to_string()), "{message}");
     assert_eq!(refused.into_done().into_string(), done);
 }
@@ -35,13 +32,7 @@ fn check_second(second: X64, limit: u32, refusal: Refusal, number: u32) {
 fn limit_above_32() {
     let words = x64(vec![first()]);
     for limit in [33, u32::MAX] {
-        check(
-            translate(&words, limit).unwrap_err(),
-            Refusal::Limit,
-            2,
-            None,
-            "",
-        );
+        check(translate(&words, limit).unwrap_err(), Refusal::Limit, 2, None, "");
     }
     assert!(translate(&words, NO_LIMIT).is_ok());
 }
@@ -52,13 +43,7 @@ fn contents() {
     let mut gap = words.clone();
     gap[2] += 1;
     for broken in [&[][..], &[1], &[5, 0], &[1, 0, 0], &words[..16], &gap] {
-        check(
-            translate(broken, NO_LIMIT).unwrap_err(),
-            Refusal::Contents,
-            3,
-            None,
-            "",
-        );
+        check(translate(broken, NO_LIMIT).unwrap_err(), Refusal::Contents, 3, None, "");
     }
 }
 
@@ -67,46 +52,22 @@ fn layout() {
     let mut words = x64(vec![first(), first()]);
     let last = words.len() - 2;
     words[last] = 16;
-    check(
-        translate(&words, NO_LIMIT).unwrap_err(),
-        Refusal::Layout,
-        4,
-        Some(1),
-        FIRST_LINE,
-    );
+    check(translate(&words, NO_LIMIT).unwrap_err(), Refusal::Layout, 4, Some(1), FIRST_LINE);
 }
 
 #[test]
 fn chain_longer_than_the_limit() {
     let chained = function(vec![info(vec![]); 2]);
     check_second(chained.clone(), 1, Refusal::Chain, 5);
-    assert_eq!(
-        translate(&x64(vec![first(), chained]), 2)
-            .unwrap()
-            .entries(),
-        2
-    );
+    assert_eq!(translate(&x64(vec![first(), chained]), 2).unwrap().entries(), 2);
 }
 
 #[test]
 fn limit_zero() {
-    let zero = X64 {
-        infos: vec![info(vec![])],
-        ..X64::default()
-    };
-    let one = X64 {
-        begin: 1,
-        end: 2,
-        ..zero.clone()
-    };
+    let zero = X64 { infos: vec![info(vec![])], ..X64::default() };
+    let one = X64 { begin: 1, end: 2, ..zero.clone() };
     assert_eq!(translate(&x64(vec![zero.clone()]), 0).unwrap().entries(), 1);
-    check(
-        translate(&x64(vec![zero, one]), 0).unwrap_err(),
-        Refusal::Chain,
-        5,
-        Some(1),
-        "",
-    );
+    check(translate(&x64(vec![zero, one]), 0).unwrap_err(), Refusal::Chain, 5, Some(1), "");
 }
 
 #[test]
@@ -137,20 +98,10 @@ fn frame_of_eight_lines(last_start: u32) -> Pdb {
 
 #[test]
 fn longest_text() {
-    let words = |last_start| {
-        Book::Pdb(vec![frame_of_eight_lines(last_start)])
-            .words()
-            .unwrap()
-    };
+    let words = |last_start| Book::Pdb(vec![frame_of_eight_lines(last_start)]).words().unwrap();
     let text = translate(&words(7), NO_LIMIT).unwrap();
     assert_eq!((text.as_str().len(), text.lines().count()), (8192, 8));
-    check(
-        translate(&words(0x10), NO_LIMIT).unwrap_err(),
-        Refusal::Long,
-        8,
-        Some(0),
-        "",
-    );
+    check(translate(&words(0x10), NO_LIMIT).unwrap_err(), Refusal::Long, 8, Some(0), "");
 }
 
 #[test]
@@ -159,26 +110,8 @@ fn bound_of_the_text() {
     let bounded = |most| Translator::new().most_bytes(most).translate(&words);
     let length = FIRST_LINE.len();
     check(bounded(0).unwrap_err(), Refusal::Room, 9, Some(0), "");
-    check(
-        bounded(length - 1).unwrap_err(),
-        Refusal::Room,
-        9,
-        Some(0),
-        "",
-    );
-    check(
-        bounded(length).unwrap_err(),
-        Refusal::Room,
-        9,
-        Some(1),
-        FIRST_LINE,
-    );
-    check(
-        bounded(2 * length - 1).unwrap_err(),
-        Refusal::Room,
-        9,
-        Some(1),
-        FIRST_LINE,
-    );
+    check(bounded(length - 1).unwrap_err(), Refusal::Room, 9, Some(0), "");
+    check(bounded(length).unwrap_err(), Refusal::Room, 9, Some(1), FIRST_LINE);
+    check(bounded(2 * length - 1).unwrap_err(), Refusal::Room, 9, Some(1), FIRST_LINE);
     assert_eq!(bounded(2 * length).unwrap().as_str(), FIRST_LINE.repeat(2));
 }

@@ -10,11 +10,7 @@ impl Form for Arm64 {
     fn parse(head: &mut Line, rest: &mut [Line]) -> Result<(Arm64, Vec<u32>), Error> {
         let (address, size) = (head.field("address")?, head.field("size")?);
         head.end()?;
-        let mut entry = Arm64 {
-            address,
-            size,
-            operations: Vec::new(),
-        };
+        let mut entry = Arm64 { address, size, operations: Vec::new() };
         let mut unused = Vec::new();
         for line in rest {
             let operation = operation(line)?;
@@ -50,22 +46,14 @@ fn operation(line: &mut Line) -> Result<Operation, Error> {
 }
 
 /// `x19 at 16` or `x19 pre 16`, for a letter above 2 with `letter N` behind it.
-fn saved(
-    line: &mut Line,
-    at: fn(Slot) -> Operation,
-    pre: fn(Slot) -> Operation,
-) -> Result<Operation, Error> {
+fn saved(line: &mut Line, at: fn(Slot) -> Operation, pre: fn(Slot) -> Operation) -> Result<Operation, Error> {
     let (letter, register) = register(line)?;
     let pre_indexed = line.take("pre");
     if !pre_indexed {
         line.keyword("at")?;
     }
     let offset = line.number("an offset")?;
-    let mut slot = Slot {
-        letter,
-        register,
-        offset,
-    };
+    let mut slot = Slot { letter, register, offset };
     if letter == Letter::Q && line.take("letter") {
         slot.letter = Letter(line.number("a letter")?);
         if slot.letter.name() != 'q' {
@@ -80,10 +68,7 @@ fn lr_pair(line: &mut Line) -> Result<Operation, Error> {
     if letter != Letter::X {
         return Err(line.error("the register beside lr is an x register"));
     }
-    Ok(Operation::LrPair {
-        register,
-        offset: line.field("at")?,
-    })
+    Ok(Operation::LrPair { register, offset: line.field("at")? })
 }
 
 fn register(line: &mut Line) -> Result<(Letter, u8), Error> {
@@ -113,11 +98,7 @@ fn show_operation(operation: &Operation) -> String {
 }
 
 fn show_saved(what: &str, place: &str, slot: &Slot) -> String {
-    let Slot {
-        letter,
-        register,
-        offset,
-    } = slot;
+    let Slot { letter, register, offset } = slot;
     let text = format!("{what} {}{register} {place} {offset}", letter.name());
     if letter.0 > Letter::Q.0 {
         return format!("{text} letter {}", letter.0);

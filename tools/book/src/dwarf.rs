@@ -28,40 +28,22 @@ impl Form for Dwarf {
             row.rules.push(rule(line, &mut unused)?);
             row.check().map_err(|fault| line.error(fault.what()))?;
         }
-        Ok((
-            Dwarf {
-                family,
-                initial_address,
-                load_address,
-                return_register,
-                rows,
-            },
-            unused,
-        ))
+        Ok((Dwarf { family, initial_address, load_address, return_register, rows }, unused))
     }
 
     fn show(&self, unused: &mut Unused) -> String {
-        let Dwarf {
-            initial_address,
-            load_address,
-            return_register,
-            ..
-        } = self;
+        let Dwarf { initial_address, load_address, return_register, .. } = self;
         let family = self.family.name();
-        let mut text = format!("entry family {family} initial {initial_address:#x} load {load_address:#x} return {return_register}\n");
+        let mut text = format!(
+            "entry family {family} initial {initial_address:#x} load {load_address:#x} return {return_register}\n"
+        );
         for row in &self.rows {
             let spare = unused.take(row.cfa.unused());
             let cfa = show_cfa(&row.cfa);
-            writeln!(
-                text,
-                "  row start {:#x} end {:#x} cfa {cfa}{spare}",
-                row.start, row.end
-            )
-            .expect("a string grows");
+            writeln!(text, "  row start {:#x} end {:#x} cfa {cfa}{spare}", row.start, row.end).expect("a string grows");
             for (register, rule) in &row.rules {
                 let spare = unused.take(rule.unused());
-                writeln!(text, "    rule {register} {}{spare}", show_rule(rule))
-                    .expect("a string grows");
+                writeln!(text, "    rule {register} {}{spare}", show_rule(rule)).expect("a string grows");
             }
         }
         text
@@ -75,18 +57,10 @@ fn row(line: &mut Line, unused: &mut Vec<u32>) -> Result<Row, Error> {
     let cfa = if line.take("expression") {
         Cfa::Expression
     } else {
-        Cfa::RegisterAndOffset {
-            register: line.number("a register or 'expression'")?,
-            offset: line.field("offset")?,
-        }
+        Cfa::RegisterAndOffset { register: line.number("a register or 'expression'")?, offset: line.field("offset")? }
     };
     line.end_with_unused(cfa.unused(), unused)?;
-    Ok(Row {
-        start,
-        end,
-        cfa,
-        rules: Vec::new(),
-    })
+    Ok(Row { start, end, cfa, rules: Vec::new() })
 }
 
 fn rule(line: &mut Line, unused: &mut Vec<u32>) -> Result<(u16, Rule), Error> {

@@ -17,9 +17,7 @@ mod x64;
 pub use line::Error;
 
 use line::Line;
-use stacklines_book::{
-    assemble, bodies, Arm64, Dwarf, Entry, Kind, Pdb, MOST_ENTRIES, MOST_WORDS, X64,
-};
+use stacklines_book::{assemble, bodies, Arm64, Dwarf, Entry, Kind, Pdb, MOST_ENTRIES, MOST_WORDS, X64};
 
 /// An entry that has a readable form.
 trait Form: Entry {
@@ -46,21 +44,14 @@ impl Unused<'_> {
 }
 
 /// The kinds with the words that name them.
-const KINDS: [(Kind, &str); 4] = [
-    (Kind::X64, "x64"),
-    (Kind::Arm64, "arm64"),
-    (Kind::Dwarf, "dwarf"),
-    (Kind::Pdb, "pdb"),
-];
+const KINDS: [(Kind, &str); 4] =
+    [(Kind::X64, "x64"), (Kind::Arm64, "arm64"), (Kind::Dwarf, "dwarf"), (Kind::Pdb, "pdb")];
 
 /// The bytes of the book that a text describes.
 pub fn make(text: &str) -> Result<Vec<u8>, Error> {
     let mut lines = line::lines(text)?;
     let Some(first) = lines.first_mut() else {
-        return Err(Error::new(
-            1,
-            "there is no book: the first line is x64, arm64, dwarf, pdb or words",
-        ));
+        return Err(Error::new(1, "there is no book: the first line is x64, arm64, dwarf, pdb or words"));
     };
     if first.is("words") || first.is("bytes") {
         return raw::book(&mut lines);
@@ -86,10 +77,7 @@ fn entries<E: Form>(lines: &mut [Line]) -> Result<Vec<u32>, Error> {
     let mut rest = lines;
     while let Some((head, behind)) = rest.split_first_mut() {
         head.keyword("entry")?;
-        let length = behind
-            .iter()
-            .position(|line| line.is("entry"))
-            .unwrap_or(behind.len());
+        let length = behind.iter().position(|line| line.is("entry")).unwrap_or(behind.len());
         let (own, next) = behind.split_at_mut(length);
         let body = body::<E>(head, own)?;
         words += 2 + body.len();
@@ -110,33 +98,22 @@ fn body<E: Form>(head: &mut Line, rest: &mut [Line]) -> Result<Vec<u32>, Error> 
         return raw::body(head, rest);
     }
     let (entry, unused) = E::parse(head, rest)?;
-    entry
-        .write(&unused)
-        .map_err(|fault| head.error(fault.what()))
+    entry.write(&unused).map_err(|fault| head.error(fault.what()))
 }
 
 /// A text that [`make`] turns into these bytes.
 pub fn show(book: &[u8]) -> String {
     let whole = book.chunks_exact(4);
     let broken = whole.remainder();
-    let words: Vec<u32> = whole
-        .map(|word| u32::from_le_bytes(word.try_into().expect("four bytes")))
-        .collect();
+    let words: Vec<u32> = whole.map(|word| u32::from_le_bytes(word.try_into().expect("four bytes"))).collect();
     if !broken.is_empty() {
-        return format!(
-            "# refused 3: the last word is broken\n{}",
-            raw::show_book(&words, broken)
-        );
+        return format!("# refused 3: the last word is broken\n{}", raw::show_book(&words, broken));
     }
     let (kind, bodies) = match bodies(&words) {
         Ok(contents) => contents,
         Err(fault) => return format!("# refused 3: {fault}\n{}", raw::show_book(&words, &[])),
     };
-    let name = KINDS
-        .iter()
-        .find(|known| known.0 == kind)
-        .expect("each kind has a name")
-        .1;
+    let name = KINDS.iter().find(|known| known.0 == kind).expect("each kind has a name").1;
     let mut text = format!("{name}\n");
     for body in bodies {
         text.push_str(&match kind {

@@ -11,10 +11,7 @@ pub struct Error {
 
 impl Error {
     pub(crate) fn new(line: usize, what: &str) -> Error {
-        Error {
-            line,
-            what: what.to_string(),
-        }
+        Error { line, what: what.to_string() }
     }
 
     /// The number of the line, from 1.
@@ -54,11 +51,7 @@ pub(crate) fn lines(text: &str) -> Result<Vec<Line<'_>>, Error> {
     for (i, line) in text.lines().enumerate() {
         let tokens = tokens(line).map_err(|what| Error::new(i + 1, what))?;
         if !tokens.is_empty() {
-            lines.push(Line {
-                number: i + 1,
-                tokens,
-                at: 0,
-            });
+            lines.push(Line { number: i + 1, tokens, at: 0 });
         }
     }
     Ok(lines)
@@ -73,9 +66,7 @@ fn tokens(line: &str) -> Result<Vec<Token<'_>>, &'static str> {
             tokens.push(Token::Quoted(text));
             rest = &behind[length..];
         } else {
-            let length = rest
-                .find(|c: char| c.is_whitespace() || c == '#')
-                .unwrap_or(rest.len());
+            let length = rest.find(|c: char| c.is_whitespace() || c == '#').unwrap_or(rest.len());
             tokens.push(Token::Word(&rest[..length]));
             rest = &rest[length..];
         }
@@ -166,8 +157,7 @@ impl<'a> Line<'a> {
     /// A number in the range of its type: decimal, or hexadecimal behind 0x.
     pub fn number<T: TryFrom<i128>>(&mut self, what: &str) -> Result<T, Error> {
         let word = self.word(what)?;
-        let number = parse_number(word)
-            .ok_or_else(|| self.error(&format!("expected {what}, not '{word}'")))?;
+        let number = parse_number(word).ok_or_else(|| self.error(&format!("expected {what}, not '{word}'")))?;
         T::try_from(number).map_err(|_| self.error(&format!("{what} is out of its range: {word}")))
     }
 
@@ -208,10 +198,7 @@ impl<'a> Line<'a> {
         }
         let words: Vec<u32> = self.numbers("an unused word")?;
         if words.len() != count {
-            return Err(self.error(&format!(
-                "the number of unused words is {count} here, not {}",
-                words.len()
-            )));
+            return Err(self.error(&format!("the number of unused words is {count} here, not {}", words.len())));
         }
         unused.extend(words);
         Ok(())
@@ -237,7 +224,5 @@ fn parse_number(word: &str) -> Option<i128> {
     if !digits.chars().all(|c| c.is_digit(radix)) {
         return None;
     }
-    i128::from_str_radix(digits, radix)
-        .ok()
-        .map(|number| sign * number)
+    i128::from_str_radix(digits, radix).ok().map(|number| sign * number)
 }

@@ -43,14 +43,10 @@ fn read(file: Option<&str>) -> io::Result<Vec<u8>> {
 
 fn make(name: &str, input: &[u8]) -> Vec<u8> {
     let text = std::str::from_utf8(input).unwrap_or_else(|error| {
-        let line = 1 + input[..error.valid_up_to()]
-            .iter()
-            .filter(|&&byte| byte == b'\n')
-            .count();
+        let line = 1 + input[..error.valid_up_to()].iter().filter(|&&byte| byte == b'\n').count();
         fail(1, &format!("{name}:{line}: this is not text"))
     });
-    book_form::make(text)
-        .unwrap_or_else(|error| fail(1, &format!("{name}:{}: {}", error.line(), error.what())))
+    book_form::make(text).unwrap_or_else(|error| fail(1, &format!("{name}:{}: {}", error.line(), error.what())))
 }
 
 fn fail(status: i32, what: &str) -> ! {

@@ -44,18 +44,11 @@ impl Form for Pdb {
     }
 
     fn show(&self, unused: &mut Unused) -> String {
-        let mut text = format!(
-            "entry type {} start {:#x} size {:#x}",
-            self.frame_type.name(),
-            self.code_start,
-            self.code_size
-        );
+        let mut text =
+            format!("entry type {} start {:#x} size {:#x}", self.frame_type.name(), self.code_start, self.code_size);
         let (saved, locals) = (self.saved_registers_size, self.locals_size);
         let mut add = |part: String| text.push_str(&part);
-        add(format!(
-            " prolog {} params {} saved {saved} locals {locals}\n",
-            self.prolog_size, self.params_size
-        ));
+        add(format!(" prolog {} params {} saved {saved} locals {locals}\n", self.prolog_size, self.params_size));
         add(show_max_stack(self.max_stack_size, unused));
         if self.uses_base_pointer {
             add("  base pointer\n".to_string());
@@ -115,10 +108,7 @@ fn program(entry: &mut Pdb, line: &mut Line) -> Result<(), Error> {
 }
 
 fn range(line: &mut Line) -> Result<Range, Error> {
-    Ok(Range {
-        start: line.number("a start")?,
-        end: line.field("to")?,
-    })
+    Ok(Range { start: line.number("a start")?, end: line.field("to")? })
 }
 
 fn show_max_stack(size: Option<u32>, unused: &mut Unused) -> String {

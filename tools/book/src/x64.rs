@@ -8,18 +8,9 @@ use std::fmt::Write;
 
 impl Form for X64 {
     fn parse(head: &mut Line, rest: &mut [Line]) -> Result<(X64, Vec<u32>), Error> {
-        let (begin, end, info_address) = (
-            head.field("begin")?,
-            head.field("end")?,
-            head.field("info")?,
-        );
+        let (begin, end, info_address) = (head.field("begin")?, head.field("end")?, head.field("info")?);
         head.end()?;
-        let mut entry = X64 {
-            begin,
-            end,
-            info_address,
-            infos: Vec::new(),
-        };
+        let mut entry = X64 { begin, end, info_address, infos: Vec::new() };
         let mut unused = Vec::new();
         for line in rest {
             if line.take("info") {
@@ -39,10 +30,7 @@ impl Form for X64 {
     }
 
     fn show(&self, unused: &mut Unused) -> String {
-        let mut text = format!(
-            "entry begin {:#x} end {:#x} info {:#x}\n",
-            self.begin, self.end, self.info_address
-        );
+        let mut text = format!("entry begin {:#x} end {:#x} info {:#x}\n", self.begin, self.end, self.info_address);
         for info in &self.infos {
             text.push_str(&show_info(info));
             for operation in &info.operations {
@@ -81,9 +69,7 @@ fn operation(line: &mut Line) -> Result<Operation, Error> {
         }
         "machine" => {
             line.keyword("frame")?;
-            Operation::MachineFrame {
-                error_code: line.take("code"),
-            }
+            Operation::MachineFrame { error_code: line.take("code") }
         }
         "other" => Operation::Other,
         "undecodable" => Operation::Undecodable,
@@ -95,16 +81,10 @@ fn save(line: &mut Line) -> Result<Operation, Error> {
     let register = register(line)?;
     line.keyword("at")?;
     if line.take("frame") {
-        return Ok(Operation::SaveAtFrame {
-            register,
-            offset: line.number("an offset")?,
-        });
+        return Ok(Operation::SaveAtFrame { register, offset: line.number("an offset")? });
     }
     line.keyword("rsp")?;
-    Ok(Operation::SaveAtRsp {
-        register,
-        offset: line.number("an offset")?,
-    })
+    Ok(Operation::SaveAtRsp { register, offset: line.number("an offset")? })
 }
 
 fn show_info(info: &Info) -> String {

@@ -25,11 +25,7 @@ struct Call {
 fn expectation(number: usize, line: &str) -> Result<Call, String> {
     let wrong = || format!("line {number}: expect NUMBER entries N [limit N] [room N]");
     let fields: Vec<&str> = line.split_whitespace().collect();
-    let mut due = Outcome {
-        number: 0,
-        entries: 0,
-        text: String::new(),
-    };
+    let mut due = Outcome { number: 0, entries: 0, text: String::new() };
     let mut translator = Translator::new();
     for field in fields.chunks(2) {
         let [name, value] = field else {
@@ -44,11 +40,7 @@ fn expectation(number: usize, line: &str) -> Result<Call, String> {
             _ => return Err(wrong()),
         }
     }
-    Ok(Call {
-        line: number,
-        translator,
-        due,
-    })
+    Ok(Call { line: number, translator, due })
 }
 
 /// The book's text, and the calls behind it.
@@ -59,9 +51,7 @@ fn parse(case: &str) -> Result<(String, Vec<Call>), String> {
         match calls.last_mut() {
             _ if line.starts_with("expect ") => calls.push(expectation(i + 1, line)?),
             None => book.push_str(&format!("{line}\n")),
-            Some(call) if line.starts_with("STACK ") => {
-                call.due.text.push_str(&format!("{line}\n"))
-            }
+            Some(call) if line.starts_with("STACK ") => call.due.text.push_str(&format!("{line}\n")),
             Some(_) => return Err(format!("line {}: neither a STACK line nor 'expect'", i + 1)),
         }
     }
@@ -81,11 +71,7 @@ fn run(case: &str) -> Result<(usize, Vec<String>), String> {
             Ok(text) => (0, text),
             Err(refused) => (refused.number(), refused.into_done()),
         };
-        let got = Outcome {
-            number,
-            entries: done.entries(),
-            text: done.into_string(),
-        };
+        let got = Outcome { number, entries: done.entries(), text: done.into_string() };
         if got != call.due {
             faults.push(format!("line {}: {got:#?} for {:#?}", call.line, call.due));
         }
@@ -101,11 +87,7 @@ fn cases() {
         let case = fs::read_to_string(&file).unwrap();
         let (count, faults) = run(&case).unwrap_or_else(|fault| (1, vec![fault]));
         calls += count;
-        failed.extend(
-            faults
-                .into_iter()
-                .map(|fault| format!("{}: {fault}", file.display())),
-        );
+        failed.extend(faults.into_iter().map(|fault| format!("{}: {fault}", file.display())));
     }
     assert!(failed.is_empty(), "{}", failed.join("\n"));
     assert!(calls >= 20, "only {calls} calls");
@@ -114,15 +96,8 @@ fn cases() {
 #[test]
 fn wrong_cases_fail() {
     let line = "STACK CFI INIT 1 1 .cfa: $rsp 8 + .ra: .cfa 8 - ^";
-    let case = |expected: &str| {
-        run(&format!(
-            "x64\nentry begin 1 end 2 info 3\n info\n{expected}\n"
-        ))
-    };
-    assert_eq!(
-        case(&format!("expect 0 entries 1\n{line}")),
-        Ok((1, vec![]))
-    );
+    let case = |expected: &str| run(&format!("x64\nentry begin 1 end 2 info 3\n info\n{expected}\n"));
+    assert_eq!(case(&format!("expect 0 entries 1\n{line}")), Ok((1, vec![])));
     for wrong in [
         "expect 0 entries 1".to_string(),
         format!("expect 0 entries 0\n{line}"),

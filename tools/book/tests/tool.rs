@@ -34,10 +34,7 @@ fn files_and_standard_input() {
     let specimens = folder("specimens");
     let (text, book) = (specimens.join("pdb.txt"), specimens.join("pdb.book"));
     let (text_bytes, book_bytes) = (fs::read(&text).unwrap(), fs::read(&book).unwrap());
-    assert_eq!(
-        run(&["make", text.to_str().unwrap()], b"").stdout,
-        book_bytes
-    );
+    assert_eq!(run(&["make", text.to_str().unwrap()], b"").stdout, book_bytes);
     assert_eq!(run(&["make"], &text_bytes).stdout, book_bytes);
     let shown = run(&["show", book.to_str().unwrap()], b"");
     assert_eq!(shown.status.code(), Some(0));
@@ -47,18 +44,8 @@ fn files_and_standard_input() {
 
 #[test]
 fn failures() {
-    check_failure(
-        &["make"],
-        b"x64\nentry begin 1",
-        1,
-        "standard input:2: expected 'end' at the end of the line",
-    );
-    check_failure(
-        &["make"],
-        b"x64\n\xff",
-        1,
-        "standard input:2: this is not text",
-    );
+    check_failure(&["make"], b"x64\nentry begin 1", 1, "standard input:2: expected 'end' at the end of the line");
+    check_failure(&["make"], b"x64\n\xff", 1, "standard input:2: this is not text");
     check_failure(&["make", "no such file"], b"", 1, "no such file: ");
     check_failure(&["show", "no such file"], b"", 1, "no such file: ");
     check_failure(&["print"], b"", 2, "book make [FILE]");

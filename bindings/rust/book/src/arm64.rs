@@ -68,39 +68,23 @@ pub struct Slot {
 impl Slot {
     /// A general register.
     pub fn x(register: u8, offset: u32) -> Slot {
-        Slot {
-            letter: Letter::X,
-            register,
-            offset,
-        }
+        Slot { letter: Letter::X, register, offset }
     }
 
     /// The low half of a vector register.
     pub fn d(register: u8, offset: u32) -> Slot {
-        Slot {
-            letter: Letter::D,
-            register,
-            offset,
-        }
+        Slot { letter: Letter::D, register, offset }
     }
 
     /// A whole vector register.
     pub fn q(register: u8, offset: u32) -> Slot {
-        Slot {
-            letter: Letter::Q,
-            register,
-            offset,
-        }
+        Slot { letter: Letter::Q, register, offset }
     }
 
     fn get(words: &mut Reader) -> Result<Slot, Fault> {
         let letter = Letter(words.word()?);
         let register = words.small(REGISTER)?;
-        Ok(Slot {
-            letter,
-            register,
-            offset: words.word()?,
-        })
+        Ok(Slot { letter, register, offset: words.word()? })
     }
 
     fn put(&self, words: &mut Writer) {
@@ -146,10 +130,7 @@ impl Operation {
     /// How many of the operation's words are not read.
     pub fn unused(&self) -> usize {
         match self {
-            Operation::Save(_)
-            | Operation::SavePre(_)
-            | Operation::Pair(_)
-            | Operation::PairPre(_) => 0,
+            Operation::Save(_) | Operation::SavePre(_) | Operation::Pair(_) | Operation::PairPre(_) => 0,
             Operation::LrPair { .. } => 1,
             Operation::Allocate(_) => 2,
             Operation::SaveNext | Operation::Other | Operation::End | Operation::Undecodable => 3,
@@ -169,10 +150,7 @@ impl Operation {
             6 => {
                 words.unused(1)?;
                 let register = words.small(REGISTER)?;
-                return Ok(Operation::LrPair {
-                    register,
-                    offset: words.word()?,
-                });
+                return Ok(Operation::LrPair { register, offset: words.word()? });
             }
             7 => Operation::SaveNext,
             8 => Operation::Other,
@@ -204,10 +182,7 @@ impl Operation {
         words.unused(self.unused());
         match self {
             Operation::Allocate(value) => words.word(*value),
-            Operation::Save(slot)
-            | Operation::SavePre(slot)
-            | Operation::Pair(slot)
-            | Operation::PairPre(slot) => {
+            Operation::Save(slot) | Operation::SavePre(slot) | Operation::Pair(slot) | Operation::PairPre(slot) => {
                 slot.put(words);
             }
             Operation::LrPair { register, offset } => {
@@ -221,29 +196,20 @@ impl Operation {
 
 impl Arm64 {
     pub(crate) fn keeps_layout(&self) -> Result<(), Fault> {
-        Fault::layout_unless(
-            self.operations.len() <= MOST_OPERATIONS,
-            "an entry has more than 1,024 operations",
-        )
+        Fault::layout_unless(self.operations.len() <= MOST_OPERATIONS, "an entry has more than 1,024 operations")
     }
 
     pub(crate) fn get(words: &mut Reader) -> Result<Arm64, Fault> {
         let (address, size) = (words.word()?, words.word()?);
         let count = words.word()?;
         let operations = words.many(count, Operation::get)?;
-        Ok(Arm64 {
-            address,
-            size,
-            operations,
-        })
+        Ok(Arm64 { address, size, operations })
     }
 
     pub(crate) fn put(&self, words: &mut Writer) {
         words.word(self.address);
         words.word(self.size);
         words.count(self.operations.len());
-        self.operations
-            .iter()
-            .for_each(|operation| operation.put(words));
+        self.operations.iter().for_each(|operation| operation.put(words));
     }
 }

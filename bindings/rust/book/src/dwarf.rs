@@ -77,10 +77,7 @@ impl Cfa {
         match words.word()? {
             0 => {
                 let register = words.small(REGISTER)?;
-                Ok(Cfa::RegisterAndOffset {
-                    register,
-                    offset: words.signed()?,
-                })
+                Ok(Cfa::RegisterAndOffset { register, offset: words.signed()? })
             }
             1 => {
                 words.unused(3)?;
@@ -210,17 +207,12 @@ const FAMILIES: [(Family, &str); 11] = [
 impl Family {
     /// The family of this number, 0 to 10.
     pub fn from_number(number: u32) -> Option<Family> {
-        FAMILIES
-            .get(usize::try_from(number).ok()?)
-            .map(|family| family.0)
+        FAMILIES.get(usize::try_from(number).ok()?).map(|family| family.0)
     }
 
     /// The family of this name, as `amd64`.
     pub fn from_name(name: &str) -> Option<Family> {
-        FAMILIES
-            .iter()
-            .find(|family| family.1 == name)
-            .map(|family| family.0)
+        FAMILIES.iter().find(|family| family.1 == name).map(|family| family.0)
     }
 
     /// The family's number, 0 to 10.
@@ -237,30 +229,17 @@ impl Family {
 impl Row {
     /// Whether the row has few enough rules, and no register twice.
     pub fn check(&self) -> Result<(), Fault> {
-        Fault::layout_unless(
-            self.rules.len() <= MOST_RULES,
-            "a row has more than 64 rules",
-        )?;
+        Fault::layout_unless(self.rules.len() <= MOST_RULES, "a row has more than 64 rules")?;
         let distinct: BTreeSet<u16> = self.rules.iter().map(|rule| rule.0).collect();
-        Fault::layout_unless(
-            distinct.len() == self.rules.len(),
-            "a row has a register twice",
-        )
+        Fault::layout_unless(distinct.len() == self.rules.len(), "a row has a register twice")
     }
 
     fn get(words: &mut Reader) -> Result<Row, Fault> {
         let (start, end) = (words.wide()?, words.wide()?);
         let cfa = Cfa::get(words)?;
         let count = words.word()?;
-        let rules = words.many(count, |words| {
-            Ok((words.small(REGISTER)?, Rule::get(words)?))
-        })?;
-        Ok(Row {
-            start,
-            end,
-            cfa,
-            rules,
-        })
+        let rules = words.many(count, |words| Ok((words.small(REGISTER)?, Rule::get(words)?)))?;
+        Ok(Row { start, end, cfa, rules })
     }
 
     fn put(&self, words: &mut Writer) {
@@ -277,37 +256,19 @@ impl Row {
 
 impl Dwarf {
     pub(crate) fn keeps_layout(&self) -> Result<(), Fault> {
-        Fault::layout_unless(
-            self.rows.len() <= MOST_ROWS,
-            "an entry has more than 1,024 rows",
-        )?;
+        Fault::layout_unless(self.rows.len() <= MOST_ROWS, "an entry has more than 1,024 rows")?;
         self.rows.iter().try_for_each(Row::check)?;
-        let registers: BTreeSet<u16> = self
-            .rows
-            .iter()
-            .flat_map(|row| &row.rules)
-            .map(|rule| rule.0)
-            .collect();
-        Fault::layout_unless(
-            registers.len() <= MOST_RULES,
-            "an entry has rules for more than 64 registers",
-        )
+        let registers: BTreeSet<u16> = self.rows.iter().flat_map(|row| &row.rules).map(|rule| rule.0).collect();
+        Fault::layout_unless(registers.len() <= MOST_RULES, "an entry has rules for more than 64 registers")
     }
 
     pub(crate) fn get(words: &mut Reader) -> Result<Dwarf, Fault> {
-        let family =
-            Family::from_number(words.word()?).ok_or(Fault::layout("the family is not 0 to 10"))?;
+        let family = Family::from_number(words.word()?).ok_or(Fault::layout("the family is not 0 to 10"))?;
         let (initial_address, load_address) = (words.wide()?, words.wide()?);
         let return_register = words.small(REGISTER)?;
         let count = words.word()?;
         let rows = words.many(count, Row::get)?;
-        Ok(Dwarf {
-            family,
-            initial_address,
-            load_address,
-            return_register,
-            rows,
-        })
+        Ok(Dwarf { family, initial_address, load_address, return_register, rows })
     }
 
     pub(crate) fn put(&self, words: &mut Writer) {

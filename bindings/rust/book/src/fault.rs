@@ -20,19 +20,11 @@ pub struct Fault {
 
 impl Fault {
     pub(crate) fn contents(what: &'static str) -> Fault {
-        Fault {
-            number: 3,
-            entry: None,
-            what,
-        }
+        Fault { number: 3, entry: None, what }
     }
 
     pub(crate) fn layout(what: &'static str) -> Fault {
-        Fault {
-            number: 4,
-            entry: None,
-            what,
-        }
+        Fault { number: 4, entry: None, what }
     }
 
     pub(crate) fn contents_unless(holds: bool, what: &'static str) -> Result<(), Fault> {
@@ -44,10 +36,7 @@ impl Fault {
     }
 
     pub(crate) fn in_entry(self, entry: usize) -> Fault {
-        Fault {
-            entry: Some(entry),
-            ..self
-        }
+        Fault { entry: Some(entry), ..self }
     }
 
     /// The number of the refusal that words with this fault meet: 3 for the contents, 4 for a body.

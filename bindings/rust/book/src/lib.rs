@@ -71,9 +71,7 @@ pub enum Kind {
 impl Kind {
     /// The kind of this number, if there is one.
     pub fn from_number(number: u32) -> Option<Kind> {
-        [Kind::X64, Kind::Arm64, Kind::Dwarf, Kind::Pdb]
-            .into_iter()
-            .find(|kind| kind.number() == number)
+        [Kind::X64, Kind::Arm64, Kind::Dwarf, Kind::Pdb].into_iter().find(|kind| kind.number() == number)
     }
 
     /// The number of the kind, 1 to 4.
@@ -223,33 +221,22 @@ where
 fn write_entries<E: Entry>(entries: &[E], unused: &Unused) -> Result<Vec<Vec<u32>>, Fault> {
     let of = |i: usize| unused.get(i).map_or(&[][..], |words| &words[..]);
     let written = entries.iter().enumerate();
-    written
-        .map(|(i, entry)| entry.write(of(i)).map_err(|fault| fault.in_entry(i)))
-        .collect()
+    written.map(|(i, entry)| entry.write(of(i)).map_err(|fault| fault.in_entry(i))).collect()
 }
 
 /// The kind and the bodies of a book that keeps the contents rules; nothing is said of the bodies.
 pub fn bodies(book: &[u32]) -> Result<(Kind, Vec<&[u32]>), Fault> {
     let rule = Fault::contents_unless;
     rule(book.len() >= 2, "the book has fewer than two words")?;
-    rule(
-        book.len() <= MOST_WORDS,
-        "the book has more than 16,384 words",
-    )?;
+    rule(book.len() <= MOST_WORDS, "the book has more than 16,384 words")?;
     let kind = Kind::from_number(book[0]).ok_or(Fault::contents("the kind is not 1 to 4"))?;
     let count = book[1] as usize;
-    rule(
-        count <= MOST_ENTRIES,
-        "the book has more than 1,024 entries",
-    )?;
+    rule(count <= MOST_ENTRIES, "the book has more than 1,024 entries")?;
     let mut at = 2 + 2 * count;
     rule(at <= book.len(), "the book ends within its contents")?;
     let mut bodies = Vec::with_capacity(count);
     for pair in book[2..at].chunks_exact(2) {
-        rule(
-            pair[0] as usize == at,
-            "a body does not start where the one before it ends",
-        )?;
+        rule(pair[0] as usize == at, "a body does not start where the one before it ends")?;
         let end = at + pair[1] as usize;
         rule(end <= book.len(), "a body ends behind the book")?;
         bodies.push(&book[at..end]);
@@ -262,10 +249,7 @@ pub fn bodies(book: &[u32]) -> Result<(Kind, Vec<&[u32]>), Fault> {
 /// A book of these bodies, whatever their words are.
 pub fn assemble(kind: Kind, bodies: &[Vec<u32>]) -> Result<Vec<u32>, Fault> {
     let rule = Fault::contents_unless;
-    rule(
-        bodies.len() <= MOST_ENTRIES,
-        "the book has more than 1,024 entries",
-    )?;
+    rule(bodies.len() <= MOST_ENTRIES, "the book has more than 1,024 entries")?;
     let mut at = 2 + 2 * bodies.len();
     let length = at + bodies.iter().map(Vec::len).sum::<usize>();
     rule(length <= MOST_WORDS, "the book has more than 16,384 words")?;

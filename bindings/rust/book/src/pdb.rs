@@ -97,17 +97,12 @@ const FRAME_TYPES: [(FrameType, &str); 5] = [
 impl FrameType {
     /// The type of this number, 0 to 4.
     pub fn from_number(number: u32) -> Option<FrameType> {
-        FRAME_TYPES
-            .get(usize::try_from(number).ok()?)
-            .map(|frame| frame.0)
+        FRAME_TYPES.get(usize::try_from(number).ok()?).map(|frame| frame.0)
     }
 
     /// The type of this name, as `frame-data`.
     pub fn from_name(name: &str) -> Option<FrameType> {
-        FRAME_TYPES
-            .iter()
-            .find(|frame| frame.1 == name)
-            .map(|frame| frame.0)
+        FRAME_TYPES.iter().find(|frame| frame.1 == name).map(|frame| frame.0)
     }
 
     /// The type's number, 0 to 4.
@@ -122,14 +117,8 @@ impl FrameType {
 }
 
 fn check_ranges(ranges: &[Range]) -> Result<(), Fault> {
-    Fault::layout_unless(
-        ranges.len() <= MOST_RANGES,
-        "a list has more than 16 ranges",
-    )?;
-    Fault::layout_unless(
-        ranges.iter().all(|range| range.start <= range.end),
-        "a range ends before it starts",
-    )?;
+    Fault::layout_unless(ranges.len() <= MOST_RANGES, "a list has more than 16 ranges")?;
+    Fault::layout_unless(ranges.iter().all(|range| range.start <= range.end), "a range ends before it starts")?;
     let mut starts: Vec<u32> = ranges.iter().map(|range| range.start).collect();
     starts.sort_unstable();
     let differ = starts.windows(2).all(|two| two[0] != two[1]);
@@ -137,12 +126,7 @@ fn check_ranges(ranges: &[Range]) -> Result<(), Fault> {
 }
 
 fn get_ranges(words: &mut Reader, count: u32) -> Result<Vec<Range>, Fault> {
-    words.many(count, |words| {
-        Ok(Range {
-            start: words.word()?,
-            end: words.word()?,
-        })
-    })
+    words.many(count, |words| Ok(Range { start: words.word()?, end: words.word()? }))
 }
 
 const PROGRAM_BYTE: &str = "a byte of the program is not 32 to 126";
@@ -154,14 +138,8 @@ impl Pdb {
 
     pub(crate) fn keeps_layout(&self) -> Result<(), Fault> {
         let program = self.program();
-        Fault::layout_unless(
-            program.len() <= MOST_PROGRAM,
-            "the program is longer than 1,024 bytes",
-        )?;
-        Fault::layout_unless(
-            program.bytes().all(|byte| (32..=126).contains(&byte)),
-            PROGRAM_BYTE,
-        )?;
+        Fault::layout_unless(program.len() <= MOST_PROGRAM, "the program is longer than 1,024 bytes")?;
+        Fault::layout_unless(program.bytes().all(|byte| (32..=126).contains(&byte)), PROGRAM_BYTE)?;
         Fault::layout_unless(
             program.is_empty() || self.string_table,
             "there are a program's bytes without a string table",
@@ -171,8 +149,7 @@ impl Pdb {
     }
 
     pub(crate) fn get(words: &mut Reader) -> Result<Pdb, Fault> {
-        let frame_type =
-            FrameType::from_number(words.word()?).ok_or(Fault::layout("the type is not 0 to 4"))?;
+        let frame_type = FrameType::from_number(words.word()?).ok_or(Fault::layout("the type is not 0 to 4"))?;
         let (code_start, code_size) = (words.word()?, words.word()?);
         let prolog_size = words.small("the prolog size is above 65,535")?;
         let params_size = words.word()?;
@@ -185,13 +162,8 @@ impl Pdb {
         let (prologs, codes, length) = (words.word()?, words.word()?, words.word()?);
         let prolog_ranges = get_ranges(words, prologs)?;
         let code_ranges = get_ranges(words, codes)?;
-        let program = words.many(length, |words| {
-            words.small::<u8>(PROGRAM_BYTE).map(char::from)
-        })?;
-        Fault::layout_unless(
-            has_program || program.is_empty(),
-            "there are a program's bytes without a program",
-        )?;
+        let program = words.many(length, |words| words.small::<u8>(PROGRAM_BYTE).map(char::from))?;
+        Fault::layout_unless(has_program || program.is_empty(), "there are a program's bytes without a program")?;
         Ok(Pdb {
             frame_type,
             code_start,

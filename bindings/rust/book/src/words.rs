@@ -9,17 +9,11 @@ pub(crate) struct Reader<'a> {
 
 impl<'a> Reader<'a> {
     pub fn new(body: &'a [u32]) -> Self {
-        Reader {
-            rest: body,
-            unused: Vec::new(),
-        }
+        Reader { rest: body, unused: Vec::new() }
     }
 
     pub fn word(&mut self) -> Result<u32, Fault> {
-        let (&first, rest) = self
-            .rest
-            .split_first()
-            .ok_or(Fault::layout("the body ends too early"))?;
+        let (&first, rest) = self.rest.split_first().ok_or(Fault::layout("the body ends too early"))?;
         self.rest = rest;
         Ok(first)
     }
@@ -55,20 +49,13 @@ impl<'a> Reader<'a> {
     }
 
     /// As many things as a count says. A count beyond the body ends early, so none is too large to try.
-    pub fn many<T>(
-        &mut self,
-        count: u32,
-        mut one: impl FnMut(&mut Self) -> Result<T, Fault>,
-    ) -> Result<Vec<T>, Fault> {
+    pub fn many<T>(&mut self, count: u32, mut one: impl FnMut(&mut Self) -> Result<T, Fault>) -> Result<Vec<T>, Fault> {
         (0..count).map(|_| one(self)).collect()
     }
 
     /// The unused words, where the whole body is read.
     pub fn end(self) -> Result<Vec<u32>, Fault> {
-        Fault::layout_unless(
-            self.rest.is_empty(),
-            "the body has more words than its counts demand",
-        )?;
+        Fault::layout_unless(self.rest.is_empty(), "the body has more words than its counts demand")?;
         Ok(self.unused)
     }
 }
@@ -80,10 +67,7 @@ pub(crate) struct Writer<'a> {
 
 impl<'a> Writer<'a> {
     pub fn new(unused: &'a [u32]) -> Self {
-        Writer {
-            words: Vec::new(),
-            unused: unused.iter(),
-        }
+        Writer { words: Vec::new(), unused: unused.iter() }
     }
 
     pub fn word(&mut self, word: impl Into<u32>) {

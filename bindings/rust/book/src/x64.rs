@@ -102,12 +102,8 @@ impl Operation {
             3 => Operation::SaveAtRsp { register, offset },
             4 => Operation::SaveAtFrame { register, offset },
             5 => Operation::SetFrame,
-            6 if offset > 1 => {
-                return Err(Fault::layout("the value of a machine frame is not 0 or 1"))
-            }
-            6 => Operation::MachineFrame {
-                error_code: offset == 1,
-            },
+            6 if offset > 1 => return Err(Fault::layout("the value of a machine frame is not 0 or 1")),
+            6 => Operation::MachineFrame { error_code: offset == 1 },
             7 => Operation::Other,
             8 => Operation::Undecodable,
             _ => return Err(Fault::layout("the kind of an operation is not 1 to 8")),
@@ -136,9 +132,7 @@ impl Operation {
         }
         match *self {
             Operation::Allocate(value) => words.word(value),
-            Operation::SaveAtRsp { offset, .. } | Operation::SaveAtFrame { offset, .. } => {
-                words.word(offset)
-            }
+            Operation::SaveAtRsp { offset, .. } | Operation::SaveAtFrame { offset, .. } => words.word(offset),
             Operation::MachineFrame { error_code } => words.word(error_code),
             _ => words.unused(1),
         }
@@ -147,24 +141,39 @@ impl Operation {
 
 /// A register, numbered as Microsoft does.
 #[derive(Clone, Copy, Debug, Default, PartialEq, Eq, Hash)]
-#[allow(missing_docs)]
 pub enum Register {
+    /// Number 0.
     #[default]
     Rax,
+    /// Number 1.
     Rcx,
+    /// Number 2.
     Rdx,
+    /// Number 3.
     Rbx,
+    /// Number 4.
     Rsp,
+    /// Number 5.
     Rbp,
+    /// Number 6.
     Rsi,
+    /// Number 7.
     Rdi,
+    /// Number 8.
     R8,
+    /// Number 9.
     R9,
+    /// Number 10.
     R10,
+    /// Number 11.
     R11,
+    /// Number 12.
     R12,
+    /// Number 13.
     R13,
+    /// Number 14.
     R14,
+    /// Number 15.
     R15,
 }
 
@@ -193,17 +202,12 @@ const REGISTERS: [(Register, &str); 16] = [
 impl Register {
     /// The register of this number, 0 to 15.
     pub fn from_number(number: u32) -> Option<Register> {
-        REGISTERS
-            .get(usize::try_from(number).ok()?)
-            .map(|register| register.0)
+        REGISTERS.get(usize::try_from(number).ok()?).map(|register| register.0)
     }
 
     /// The register of this name, as `rbx`.
     pub fn from_name(name: &str) -> Option<Register> {
-        REGISTERS
-            .iter()
-            .find(|register| register.1 == name)
-            .map(|register| register.0)
+        REGISTERS.iter().find(|register| register.1 == name).map(|register| register.0)
     }
 
     /// The register's number, 0 to 15.
@@ -224,14 +228,8 @@ impl Register {
 impl Info {
     /// Whether the info keeps its ranges.
     pub fn check(&self) -> Result<(), Fault> {
-        Fault::layout_unless(
-            self.frame_offset <= MOST_FRAME_OFFSET,
-            "a frame offset is above 240",
-        )?;
-        Fault::layout_unless(
-            self.operations.len() <= MOST_OPERATIONS,
-            "an info has more than 255 operations",
-        )
+        Fault::layout_unless(self.frame_offset <= MOST_FRAME_OFFSET, "a frame offset is above 240")?;
+        Fault::layout_unless(self.operations.len() <= MOST_OPERATIONS, "an info has more than 255 operations")
     }
 
     fn get(words: &mut Reader) -> Result<Info, Fault> {
@@ -239,29 +237,20 @@ impl Info {
         let frame_offset = words.small("a frame offset is above 240")?;
         let count = words.word()?;
         let operations = words.many(count, Operation::get)?;
-        Ok(Info {
-            frame_register,
-            frame_offset,
-            operations,
-        })
+        Ok(Info { frame_register, frame_offset, operations })
     }
 
     fn put(&self, words: &mut Writer) {
         words.word(self.frame_register.number());
         words.word(self.frame_offset);
         words.count(self.operations.len());
-        self.operations
-            .iter()
-            .for_each(|operation| operation.put(words));
+        self.operations.iter().for_each(|operation| operation.put(words));
     }
 }
 
 impl X64 {
     pub(crate) fn keeps_layout(&self) -> Result<(), Fault> {
-        Fault::layout_unless(
-            (1..=MOST_INFOS).contains(&self.infos.len()),
-            "the number of infos is not 1 to 32",
-        )?;
+        Fault::layout_unless((1..=MOST_INFOS).contains(&self.infos.len()), "the number of infos is not 1 to 32")?;
         self.infos.iter().try_for_each(Info::check)
     }
 
@@ -269,12 +258,7 @@ impl X64 {
         let (begin, end, info_address) = (words.word()?, words.word()?, words.word()?);
         let count = words.word()?;
         let infos = words.many(count, Info::get)?;
-        Ok(X64 {
-            begin,
-            end,
-            info_address,
-            infos,
-        })
+        Ok(X64 { begin, end, info_address, infos })
     }
 
     pub(crate) fn put(&self, words: &mut Writer) {
