@@ -1,14 +1,17 @@
 # `make` says what there is.
 RUST_SRC ?= ../shared/docs/src
 export RUST_SRC
+PREFIX ?= /usr/local
 
-.PHONY: help run compare test lib fuzz faults bench bench-docs profile prove must-fail fmt clean
+.PHONY: help run compare test lib install book fuzz faults bench bench-docs profile prove must-fail fmt clean
 
 help:
 	@echo 'make run BOOK=file        print the STACK lines of a book, as specimens/first.book'
 	@echo 'make compare A=file B=file   say whether two books have the same records'
 	@echo 'make test                 everything: the proofs, the must-fail edits, the programs, the tests beside them'
 	@echo 'make lib                  the archive to link from C, target/staticlib/libtranslate.a; its header is bindings/c/stacklines.h'
+	@echo 'make install PREFIX=dir   header, archive and pkg-config file to dir/include and dir/lib, once make lib has made the archive'
+	@echo 'make book                 the tool that makes books from readable text and shows them, target/book; tools/book/README.md'
 	@echo 'make fuzz [SEED=] [N=]    the archive against the model and the Rust on N books, from a fresh seed unless one is given'
 	@echo 'make faults               wrong programs, each caught by a test or refused by the prover; some minutes'
 	@echo 'make bench [LTO=fat]      the speed beside the Rust, how the time grows, the stack taken; LTO links the Rust that way'
@@ -43,6 +46,19 @@ lib:
 	@rt staticlib translate >target/lib.log 2>&1 || { cat target/lib.log >&2; exit 1; }
 	@echo target/staticlib/libtranslate.a
 
+install:
+	@test -f target/staticlib/libtranslate.a || { echo 'make lib first' >&2; exit 2; }
+	@mkdir -p '$(DESTDIR)$(PREFIX)/include' '$(DESTDIR)$(PREFIX)/lib/pkgconfig'
+	@cp bindings/c/stacklines.h '$(DESTDIR)$(PREFIX)/include/'
+	@cp target/staticlib/libtranslate.a '$(DESTDIR)$(PREFIX)/lib/'
+	@sed 's|@PREFIX@|$(PREFIX)|' bindings/c/stacklines.pc.in >'$(DESTDIR)$(PREFIX)/lib/pkgconfig/stacklines.pc'
+
+book:
+	@mkdir -p target
+	@cargo build --offline --release -q -j1 --manifest-path tools/book/Cargo.toml
+	@cp tools/book/target/release/book target/book
+	@echo target/book
+
 fuzz: lib
 	@SEED='$(SEED)' N='$(N)' sh tests/fuzz
 
@@ -68,4 +84,4 @@ fmt:
 	rt fmt
 
 clean:
-	rm -rf target oracle/target
+	rm -rf target oracle/target bindings/rust/target tools/book/target

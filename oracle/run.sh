@@ -1,6 +1,6 @@
 #!/bin/sh
 # Builds and runs one of the programs: run.sh NAME WORDS...
-# NAME is test, model_vs_rust, vectors, port_vs_model, first_difference, port_vs_rust or bench.
+# NAME is test, model_vs_rust, vectors, port_vs_model, first_difference, port_vs_rust, bindings_vs_model or bench.
 # What needs the Rust source or the port's archive says so where these are not at hand, and is skipped.
 set -eu
 
@@ -27,7 +27,8 @@ need_port() {
         exit 0
     fi
     LIBDIR=$(cd "$LIBDIR" && pwd)
-    export LIBDIR
+    STACKLINES_LIB=$LIBDIR
+    export LIBDIR STACKLINES_LIB
 }
 
 case $name in
@@ -36,6 +37,7 @@ model_vs_rust | vectors) need_rust; package=rust ;;
 port_vs_model | first_difference) need_port; package=port ;;
 port_vs_rust) need_rust; need_port; package=port_rust ;;
 bench) need_rust; need_port; package=bench ;;
+bindings_vs_model) need_port; package=bindings ;;
 *)
     echo "run.sh: no program $name" >&2
     exit 2
