@@ -61,11 +61,11 @@ pub struct Saved {
 pub struct BreakpadEncoder {
     pub stack_size: u64,
     pub last: Saved,
+    pub first: Saved,
+    pub second: Saved,
     pub cfa_touched: bool,
     pub one: bool,
-    pub first: Saved,
     pub two: bool,
-    pub second: Saved,
     pub ra_written: bool,
 }
 
