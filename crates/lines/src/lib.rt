@@ -70,13 +70,19 @@ fn put_reg(out: &mut [u8], at: usize, reg: Reg) -> usize
     }
 }
 
+// As `put_reg` writes a register; it is taken apart here, since a register that is handed on goes through memory, which costs more than the rest.
 fn put_rule_name(out: &mut [u8], at: usize, name: Name) -> usize
     ensures { λ r. ⌜ Put (now (out .entry)) at (ruleName name) (now (out .exit)) r ⌝ }
 {
     match name {
         Name::Cfa => put_bytes(out, at, b".cfa"),
         Name::Ra => put_bytes(out, at, b".ra"),
-        Name::Of(reg) => put_reg(out, at, reg),
+        Name::Of(reg) => match reg {
+            Reg::Sp => put_bytes(out, at, b".sp"),
+            Reg::Pe(register) => names::put_pe_name(out, at, register),
+            Reg::Cfi(family, register) => names::put_cfi_name(out, at, family, register),
+            Reg::Arm64(letter, register) => names::put_arm64_name(out, at, letter, register),
+        },
     }
 }
 
