@@ -29,7 +29,7 @@ use lines::Rule;
 use lines::put_init;
 use lines::put_later;
 use lines::put_rule;
-use names::cfi_register_name;
+use names::has_cfi_name;
 use text::put_byte;
 ghost use mathlib.Core.Path.{_≡_};
 ghost use mathlib.Core.Bool.{cond, true, false, _&&_, _||_};
@@ -288,8 +288,7 @@ pub struct Formatted {
 fn has_name(family: u32, register: u32) -> bool
     ensures { λ r. ⌜ r ≡ any (cfiName family register) ⌝ }
 {
-    let name = cfi_register_name(family, register);
-    name.len != 0
+    has_cfi_name(family, register)
 }
 
 fn register_form(family: u32, register: u32) -> Formed

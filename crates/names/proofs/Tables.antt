@@ -1,14 +1,15 @@
 -- A table of the source holds the names of its list: one test over the whole table, which antt computes.
-use mathlib.Core.Path.{_≡_, refl, _∙_}
-use mathlib.Core.Bool.{Bool, _&&_}
+use mathlib.Core.Path.{_≡_, refl, sym, _∙_}
+use mathlib.Core.Logic.{_≢_}
+use mathlib.Core.Bool.{Bool, true, false, not, cond, _&&_}
 use mathlib.Core.List.{List, [], _∷_, _++_}
 use Prim.Native.Nat.{ℕ, zero, suc, _+_, _-_, _*_, _≤_}
 use native.Mathlib.Omega.{arith}
 use native.Mathlib.Decide.{decLt}
-use lib.Dec.{T, eqb, eqb→eq, leb, leb→le}
+use lib.Dec.{T, eqb, eqb→eq, leb, leb→le, ltb}
 use lib.ListN.{length, getD, replicate}
 use borrow.Author.Tests.{lt-leb}
-use Rattle.text.specs.Tests.{tests, at, eqw, eqw→eq, and-l, and-r}
+use Rattle.text.specs.Tests.{is-true, is-false, above, eqb-no, tests, at, eqw, eqw→eq, and-l, and-r}
 use Rattle.names.specs.Names.{Holds}
 use Rattle.names.specs.Table.{lengthAt, nameAt, Entry}
 use Rattle.names.specs.declared.RegisterName.{RegisterName}
@@ -26,7 +27,7 @@ right t ns i = eqw (nameAt t i) (getD ns i []) && eqb (lengthAt t i) (length (ge
 abbrev pub Right : List (List ℕ) → Type 0
 Right ns = T (eqb (length (packed ns)) (10 * length ns) && tests (length ns) (right (packed ns) ns))
 
-getD-out : (ns : List (List ℕ)) (i : ℕ) → length ns ≤ i → getD ns i [] ≡ []
+pub getD-out : (ns : List (List ℕ)) (i : ℕ) → length ns ≤ i → getD ns i [] ≡ []
 getD-out [] i h = refl
 getD-out (n ∷ ns) zero h = absurd (omega arith)
 getD-out (n ∷ ns) (suc i) h = getD-out ns i (omega arith)
@@ -49,3 +50,53 @@ table-holds ns t {r} i e = elim (decLt i (length ns)) [
       let z : r .len ≡ 0 = e .size ∙ rw (lt-leb (10 * i + 10) (length (packed ns)) (omega arith)) in
       rw (getD-out ns i (omega arith)) (record { text = rw z; size = z; fits = omega arith })
 ]
+
+-- ---- which registers have a name
+
+abbrev pub named : List ℕ → Bool
+named n = not (eqb (length n) 0)
+
+abbrev same : Bool → Bool → Bool
+same true t = t
+same false t = not t
+
+same→eq : (s t : Bool) → T (same s t) → s ≡ t
+same→eq true t h = sym (is-true t h)
+same→eq false t h = sym (is-false t h)
+
+-- the test tells of each entry whether it is a name
+abbrev pub Tells : List (List ℕ) → (ℕ → Bool) → Type 0
+Tells ns p = T (tests (length ns) (λ i. same (p i) (named (getD ns i []))))
+
+pub table-tells : (ns : List (List ℕ)) (p : ℕ → Bool) → Tells ns p → ((i : ℕ) → length ns ≤ i → p i ≡ false) → (i : ℕ) → p i ≡ named (getD ns i [])
+table-tells ns p t out i = elim (decLt i (length ns)) [
+  | yes h ↦ same→eq (p i) (named (getD ns i [])) (at (length ns) (λ j. same (p j) (named (getD ns j []))) t i h)
+  | no h ↦ rw (getD-out ns i (omega arith)) (out i (omega arith))
+]
+
+-- a table without names from `gap` up to `after`
+abbrev pub around : ℕ → ℕ → ℕ → ℕ → Bool
+around gap after end i = cond (ltb i gap) true (cond (ltb i after) false (ltb i end))
+
+pub around-out : (gap after end i : ℕ) → gap ≤ end → after ≤ end → end ≤ i → around gap after end i ≡ false
+around-out gap after end i p q h = rw (above i gap (omega arith), above i after (omega arith), above i end h)
+
+-- the numbers between PowerPC's names
+abbrev pub gaps : ℕ → Bool
+gaps i =
+    cond (eqb i 64) false (cond (eqb i 67) false (cond (eqb i 109) false (cond (eqb i 111) false (cond (eqb i 112) false (cond (eqb i 113) false (ltb i 117))))))
+
+pub gaps-out : (i : ℕ) → 117 ≤ i → gaps i ≡ false
+gaps-out i h = simp (
+  eqb-no i 64 (λ e. omega arith),
+  eqb-no i 67 (λ e. omega arith),
+  eqb-no i 109 (λ e. omega arith),
+  eqb-no i 111 (λ e. omega arith),
+  eqb-no i 112 (λ e. omega arith),
+  eqb-no i 113 (λ e. omega arith),
+  above i 117 h,
+)
+
+-- a number from k on that is not k
+pub next : (k n : ℕ) → k ≤ n → n ≢ k → k + 1 ≤ n
+next k n h f = omega arith

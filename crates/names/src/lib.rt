@@ -4,11 +4,13 @@ use text::put_byte;
 use text::put_bytes;
 use text::put_decimal;
 ghost use mathlib.Core.Path.{_≡_};
+ghost use mathlib.Core.Bool.{true, false, cond, not};
 ghost use mathlib.Core.List.{[], _∷_};
 ghost use Prim.Native.Nat.{_-_, _≤_};
-ghost use lib.ListN.{take};
+ghost use lib.Dec.{eqb, ltb};
+ghost use lib.ListN.{getD, length, take};
 ghost use Rattle.text.specs.Text.{Put};
-ghost use Rattle.names.specs.Names.{cfiName, peName, letterOf, arm64Name, Holds};
+ghost use Rattle.names.specs.Names.{i386, x86-64, arm, arm64, ppc, mips, cfiName, peName, letterOf, arm64Name, Holds};
 ghost use Rattle.names.specs.Table.{Entry};
 
 // x86, by DWARF register number.
@@ -94,11 +96,6 @@ const MIPS: [u8; 680] = *b"\
     4$f22     4$f23     4$f24     4$f25     4$f26     4$f27     4$f28     4$f29     \
     4$f30     4$f31     5$fcsr    4$fir     ";
 
-// x64 in PE unwind codes, in Microsoft's numbering.
-const PE_X64: [u8; 160] = *b"\
-    4$rax     4$rcx     4$rdx     4$rbx     4$rsp     4$rbp     4$rsi     4$rdi     \
-    3$r8      3$r9      4$r10     4$r11     4$r12     4$r13     4$r14     4$r15     ";
-
 // A name in fixed bytes with its length; length 0: no name.
 pub struct RegisterName {
     pub bytes: [u8; 8],
@@ -141,29 +138,136 @@ fn entry(table: &[u8], register: u32) -> RegisterName
     RegisterName { bytes, len }
 }
 
+// One function for each table: a function lays out every table that it names at each call.
+fn i386_name(register: u32) -> RegisterName
+    ensures { λ r. ⌜ Holds (getD i386 register []) r ⌝ }
+{
+    entry(&I386, register)
+}
+
+fn x86_64_name(register: u32) -> RegisterName
+    ensures { λ r. ⌜ Holds (getD x86-64 register []) r ⌝ }
+{
+    entry(&X86_64, register)
+}
+
+fn arm_name(register: u32) -> RegisterName
+    ensures { λ r. ⌜ Holds (getD arm register []) r ⌝ }
+{
+    entry(&ARM, register)
+}
+
+fn arm64_name(register: u32) -> RegisterName
+    ensures { λ r. ⌜ Holds (getD arm64 register []) r ⌝ }
+{
+    entry(&ARM64, register)
+}
+
+fn ppc_name(register: u32) -> RegisterName
+    ensures { λ r. ⌜ Holds (getD ppc register []) r ⌝ }
+{
+    entry(&PPC, register)
+}
+
+fn mips_name(register: u32) -> RegisterName
+    ensures { λ r. ⌜ Holds (getD mips register []) r ⌝ }
+{
+    entry(&MIPS, register)
+}
+
 // The name of a register in DWARF rows, for the families as `CpuFamily` numbers them.
 pub fn cfi_register_name(family: u32, register: u32) -> RegisterName
     ensures { λ r. ⌜ Holds (cfiName family register) r ⌝ }
 {
     match family {
-        1 => entry(&I386, register),
-        2 => entry(&X86_64, register),
-        3 => entry(&ARM, register),
-        4 => entry(&ARM64, register),
-        5 => entry(&PPC, register),
-        6 => entry(&PPC, register),
-        7 => entry(&MIPS, register),
-        8 => entry(&MIPS, register),
-        9 => entry(&ARM64, register),
+        1 => i386_name(register),
+        2 => x86_64_name(register),
+        3 => arm_name(register),
+        4 => arm64_name(register),
+        5 => ppc_name(register),
+        6 => ppc_name(register),
+        7 => mips_name(register),
+        8 => mips_name(register),
+        9 => arm64_name(register),
         _ => NONE,
     }
 }
 
-// The name of a register in x64 unwind codes.
+// Below `end` and not from `gap` up to `after`.
+fn around(register: u32, gap: u32, after: u32, end: u32) -> bool
+    ensures { λ r. ⌜ r ≡ cond (ltb register gap) true (cond (ltb register after) false (ltb register end)) ⌝ }
+{
+    if register < gap {
+        return true;
+    }
+    if register < after {
+        return false;
+    }
+    register < end
+}
+
+fn ppc_has_name(register: u32) -> bool
+    ensures { λ r. ⌜ r ≡ not (eqb (length (getD ppc register [])) 0) ⌝ }
+{
+    match register {
+        64 => false,
+        67 => false,
+        109 => false,
+        111 => false,
+        112 => false,
+        113 => false,
+        _ => register < 117,
+    }
+}
+
+// Whether the register has a name in DWARF rows, by its number: no table is laid out.
+pub fn has_cfi_name(family: u32, register: u32) -> bool
+    ensures { λ r. ⌜ r ≡ not (eqb (length (cfiName family register)) 0) ⌝ }
+{
+    match family {
+        1 => register < 50,
+        2 => register < 67,
+        3 => around(register, 26, 64, 104),
+        4 => around(register, 32, 64, 96),
+        5 => ppc_has_name(register),
+        6 => ppc_has_name(register),
+        7 => register < 68,
+        8 => register < 68,
+        9 => around(register, 32, 64, 96),
+        _ => false,
+    }
+}
+
+fn first_of(bytes: [u8; 8], len: usize) -> RegisterName
+    requires { ⌜ len ≤ 8 ⌝ }
+    ensures { λ r. ⌜ Holds (take len bytes) r ⌝ }
+{
+    RegisterName { bytes, len }
+}
+
+// The name of a register in x64 unwind codes, in Microsoft's numbering.
 pub fn pe_register_name(register: u32) -> RegisterName
     ensures { λ r. ⌜ Holds (peName register) r ⌝ }
 {
-    entry(&PE_X64, register)
+    match register {
+        0 => first_of(*b"$rax    ", 4),
+        1 => first_of(*b"$rcx    ", 4),
+        2 => first_of(*b"$rdx    ", 4),
+        3 => first_of(*b"$rbx    ", 4),
+        4 => first_of(*b"$rsp    ", 4),
+        5 => first_of(*b"$rbp    ", 4),
+        6 => first_of(*b"$rsi    ", 4),
+        7 => first_of(*b"$rdi    ", 4),
+        8 => first_of(*b"$r8     ", 3),
+        9 => first_of(*b"$r9     ", 3),
+        10 => first_of(*b"$r10    ", 4),
+        11 => first_of(*b"$r11    ", 4),
+        12 => first_of(*b"$r12    ", 4),
+        13 => first_of(*b"$r13    ", 4),
+        14 => first_of(*b"$r14    ", 4),
+        15 => first_of(*b"$r15    ", 4),
+        _ => NONE,
+    }
 }
 
 pub fn put_name(out: &mut [u8], at: usize, name: RegisterName) -> usize

@@ -27,6 +27,24 @@ pub fn put_byte(out: &mut [u8], at: usize, b: u8) -> usize
 pub fn put_bytes(out: &mut [u8], at: usize, src: &[u8]) -> usize
     ensures { λ r. ⌜ Put (now (out .entry)) at (now (src .entry)) (now (out .exit)) r ⌝ }
 {
+    let n = src.len();
+    if at <= out.len() {
+        if n <= out.len() - at {
+            let mut i = 0;
+            while i < n {
+                out[at + i] = src[i];
+                i += 1;
+            }
+            return at + n;
+        }
+    }
+    put_bytes_fitting(out, at, src)
+}
+
+// The bytes that fit: each is tested.
+fn put_bytes_fitting(out: &mut [u8], at: usize, src: &[u8]) -> usize
+    ensures { λ r. ⌜ Put (now (out .entry)) at (now (src .entry)) (now (out .exit)) r ⌝ }
+{
     let mut p = at;
     let mut i = 0;
     while i < src.len() {
@@ -55,14 +73,49 @@ fn digit_of(n: u64) -> u8
     }
 }
 
+fn digit_count(x: u64, base: u64) -> usize
+    requires { ⌜ 1 < base ⌝ }
+    ensures { λ r. ⌜ r ≡ length (digits base x) ⌝ }
+{
+    let mut n = 1;
+    let mut v = x;
+    while base <= v {
+        v = v / base;
+        n += 1;
+    }
+    n
+}
+
+// Where all digits fit they are stored from the last one back.
 fn put_digits(out: &mut [u8], at: usize, x: u64, base: u64) -> usize
+    requires { ⌜ (1 < base) × (base ≤ 16) ⌝ }
+    ensures { λ r. ⌜ Put (now (out .entry)) at (digits base x) (now (out .exit)) r ⌝ }
+{
+    let n = digit_count(x, base);
+    if at <= out.len() {
+        if n <= out.len() - at {
+            let mut v = x;
+            let mut k = n;
+            while 0 < k {
+                k -= 1;
+                out[at + k] = digit_of(v % base);
+                v = v / base;
+            }
+            return at + n;
+        }
+    }
+    put_digits_fitting(out, at, x, base)
+}
+
+// The digits that fit: each is tested.
+fn put_digits_fitting(out: &mut [u8], at: usize, x: u64, base: u64) -> usize
     requires { ⌜ (1 < base) × (base ≤ 16) ⌝ }
     ensures { λ r. ⌜ Put (now (out .entry)) at (digits base x) (now (out .exit)) r ⌝ }
 {
     if x < base {
         return put_byte(out, at, digit_of(x));
     }
-    let p = put_digits(out, at, x / base, base);
+    let p = put_digits_fitting(out, at, x / base, base);
     put_byte(out, p, digit_of(x % base))
 }
 

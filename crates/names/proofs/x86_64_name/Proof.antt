@@ -1,0 +1,20 @@
+-- `x86_64_name`: the table holds the names of its list, by the computed test of `Tables`.
+use Rattle.names.specs.Names.{x86-64}
+use Rattle.names.specs.Table.{lengthAt, nameAt}
+use Rattle.names.proofs.Tables.{table-holds}
+use borrow.Author.Needs.{needs}
+use Rattle.names.proofs.x86_64_name.Statement.{statement}
+use Rattle.names.proofs.x86_64_name.Tie as tie
+
+slice-aggregate-entry : tie.Need-slice-aggregate-entry
+slice-aggregate-entry c = search needs
+
+entry-requires : tie.Need-entry-requires
+entry-requires c κs = search needs
+
+returns : tie.Need-returns
+unfolding x86-64 lengthAt nameAt
+returns c = table-holds x86-64 tt (c .before .before .args .register) (c .entry .ensures)
+
+pub x86-64-name-spec : {M : Type 1} → statement M
+x86-64-name-spec = tie.close (tie.spec slice-aggregate-entry entry-requires returns)
