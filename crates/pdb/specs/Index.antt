@@ -2,6 +2,7 @@
 use mathlib.Core.Path.{_≡_, refl, sym, ap, _∙_}
 use Prim.Native.Nat.{ℕ, zero, suc, _+_, _-_, _*_, _≤_, _<_}
 use native.Mathlib.Omega.{arith}
+use native.Mathlib.Numerals.{add-one}
 use mathlib.Core.Bool.{Bool, true, false, not, cond, _&&_}
 use mathlib.Core.List.{List, [], _∷_, _++_, append-assoc, reverse, reverseAux, reverse-append, reverse-reverse}
 use borrow.Author.Tests.{ne-eqb, eq-eqb}
@@ -30,7 +31,7 @@ unfolding wordsFrom
 words-step ws a zero h = absurd (omega arith)
 words-step ws a (suc n) h = let e : suc n - 1 ≡ n = omega arith in rw e
 
-words-snoc : (ws : List ℕ) (a n : ℕ) → wordsFrom ws a (suc n) ≡ wordsFrom ws a n ++ (word ws (a + n) ∷ [])
+pub words-snoc : (ws : List ℕ) (a n : ℕ) → wordsFrom ws a (suc n) ≡ wordsFrom ws a n ++ (word ws (a + n) ∷ [])
 unfolding wordsFrom
 words-snoc ws a zero = let e : a + 0 ≡ a = omega arith in rw e
 words-snoc ws a (suc n) = let e : a + suc n ≡ a + 1 + n = omega arith in rw e (ap (λ (l : List ℕ). word ws a ∷ l) (words-snoc ws (a + 1) n))
@@ -41,6 +42,54 @@ words-last ws a (suc n) h = let e : suc n - 1 ≡ n = omega arith in let f : a +
 
 pub bytes-step : (ws : List ℕ) (a n : ℕ) → 0 < n → all printable (wordsFrom ws a n) ≡ (printable (word ws a) && all printable (wordsFrom ws (a + 1) (n - 1)))
 bytes-step ws a n h = rw (words-step ws a n h)
+
+-- the last one's test comes last
+all-snoc : (xs : List ℕ) (x : ℕ) → all printable (xs ++ (x ∷ [])) ≡ (all printable xs && printable x)
+all-snoc [] x = one (printable x)
+  where
+    one : (t : Bool) → (t && true) ≡ (true && t)
+    one true = refl
+    one false = refl
+all-snoc (y ∷ ys) x = go (printable y) (all-snoc ys x)
+  where
+    go : (t : Bool) → all printable (ys ++ (x ∷ [])) ≡ (all printable ys && printable x) → (t && all printable (ys ++ (x ∷ []))) ≡ ((t && all printable ys) && printable x)
+    go true h = h
+    go false h = refl
+
+pub bytes-more : (ws : List ℕ) (a n : ℕ) → all printable (wordsFrom ws a (n + 1)) ≡ (all printable (wordsFrom ws a n) && printable (word ws (a + n)))
+bytes-more ws a n = rw (add-one n, words-snoc ws a n) (all-snoc (wordsFrom ws a n) (word ws (a + n)))
+
+pub byte-small : (c : ℕ) → T (printable c) → c ≤ 126
+unfolding printable
+byte-small c h = leb→le c 126 (and-r (leb 32 c) _ h)
+
+byte-some : (c : ℕ) → T (printable c) → 32 ≤ c
+unfolding printable
+byte-some c h = leb→le 32 c (and-l (leb 32 c) _ h)
+
+-- past the end stands 0, which is no byte of a program
+some-within : (ws : List ℕ) (a : ℕ) → 0 < word ws a → a < length ws
+some-within [] a h = absurd (omega arith)
+some-within (x ∷ ws) zero h = omega arith
+some-within (x ∷ ws) (suc a) h = omega (arith, some-within ws a h)
+
+pub word-within : (ws : List ℕ) (a n i : ℕ) → T (all printable (wordsFrom ws a n)) → i < n → (a + i < length ws) × (word ws (a + i) ≤ 126)
+unfolding wordsFrom
+word-within ws a zero i h k = absurd (omega arith)
+word-within ws a (suc n) zero h k =
+    let t = and-l (printable (word ws a)) _ h in
+    let e : a + 0 ≡ a = omega arith in
+    rw e (some-within ws a (omega (arith, byte-some (word ws a) t)), byte-small (word ws a) t)
+word-within ws a (suc n) (suc i) h k =
+    let e : a + suc i ≡ a + 1 + i = omega arith in
+    rw e (word-within ws (a + 1) n i (and-r (printable (word ws a)) _ h) (omega arith))
+
+pub past-end : (ws : List ℕ) (a n : ℕ) → 0 < n → length ws < a + n → false ≡ all printable (wordsFrom ws a n)
+past-end ws a n h k = go (all printable (wordsFrom ws a n)) refl
+  where
+    go : (t : Bool) → all printable (wordsFrom ws a n) ≡ t → false ≡ t
+    go true e = absurd (omega (arith, word-within ws a n (n - 1) (rw e tt) (omega arith) .0))
+    go false e = refl
 
 pub apart-step : (ws : List ℕ) (s a n : ℕ) → 0 < n → apart s (ranges ws a n) ≡ (not (eqb (word ws a) s) && apart s (ranges ws (a + 2) (n - 1)))
 unfolding apart ranges rangeAt
@@ -139,10 +188,6 @@ layout-program ws h = and-r (rangesFit (codes ws)) _ (and-r (rangesFit (prologs 
 pub fits-differ : (rs : List Range) → T (rangesFit rs) → T (differ rs)
 unfolding rangesFit
 fits-differ rs h = and-r (all rangeFits rs) _ h
-
-pub byte-small : (c : ℕ) → T (printable c) → c ≤ 126
-unfolding printable
-byte-small c h = leb→le c 126 (and-r (leb 32 c) _ h)
 
 -- an entry that is written keeps the layout
 pub written : (last : Last) (ws : List ℕ) → pdbJudged last ws ≡ Write → T (pdbLayout ws)

@@ -1,65 +1,69 @@
--- `bytes_fit`: the words that are left are printable just where all are.
-use Prim.Native.Nat.{_+_, _-_}
-use mathlib.Core.Path.{_≡_, refl, sym, _∙_}
-use borrow.Author.Tests.{le-leb, lt-leb}
+-- `bytes_fit`: the first i words fit just where `fit` says so.
+use mathlib.Core.Path.{_≡_, refl, sym, ap, _∙_}
+use mathlib.Core.Bool.{Bool, _&&_}
+use Prim.Native.Nat.{_≤_, _-_, _+_}
+use lib.ListN.{length}
 use Rattle.text.specs.Tests.{all}
 use Rattle.pdb.specs.Pdb.{word, wordsFrom, printable}
-use Rattle.pdb.specs.Index.{and-no, and-yes, bytes-step}
+use Rattle.pdb.specs.Index.{bytes-more, past-end}
 use borrow.Author.Needs.{needs}
 use native.Mathlib.Omega.{arith}
 use Rattle.pdb.proofs.bytes_fit.Statement.{statement}
 use Rattle.pdb.proofs.bytes_fit.Tie as tie
 
 abbrev Inv-loop : tie.InvT-loop
-Inv-loop body from n a₀ k₀ a k = (a + k ≡ from + n) × (all printable (wordsFrom body a k) ≡ all printable (wordsFrom body from n))
+Inv-loop body from n fit₀ i₀ fit i = (i ≤ n) × (fit ≡ all printable (wordsFrom body from i))
 
 abbrev μ-loop : tie.MeasureT-loop
-μ-loop body from n a₀ k₀ a k = k
-
-loop-holds : tie.Need-loop-holds Inv-loop μ-loop
-loop-holds c = (refl, refl)
-
-word-requires : tie.Need-word-requires Inv-loop μ-loop
-word-requires c κs = search needs
+μ-loop body from n fit₀ i₀ fit i = n - i
 
 returns : tie.Need-returns Inv-loop μ-loop
-unfolding printable
-returns c =
-    let c3 = c .before .before .before in
-    let c5 = c3 .before .before in
-    let ws = c5 .args .body .now in let l = c3 .loop in
-    and-no (printable (word ws (l .a))) _ (rw (lt-leb 32 (word ws (l .a)) (omega (arith, c .before .word .ensures)))) ∙ sym (bytes-step ws (l .a) (l .k) (search needs)) ∙ l .inv .1
+unfolding wordsFrom
+returns c = let e : c .before .before .args .n ≡ 0 = omega arith in rw e refl
+
+add-if2 : tie.Need-add-if2 Inv-loop μ-loop
+add-if2 c = search needs
 
 returns-2 : tie.Need-returns-2 Inv-loop μ-loop
-unfolding printable
-returns-2 c =
-    let c2 = c .before .before in
-    let c4 = c2 .before .before in
-    let c6 = c4 .before .before in
-    let ws = c6 .args .body .now in let l = c4 .loop in
-    and-no (printable (word ws (l .a))) _ (rw (le-leb 32 (word ws (l .a)) (omega (arith, c2 .word .ensures)), lt-leb (word ws (l .a)) 126 (omega (arith, c2 .word .ensures)))) ∙ sym (bytes-step ws (l .a) (l .k) (search needs)) ∙ l .inv .1
+returns-2 c = past-end (c .before .before .before .args .body .now) (c .before .before .before .args .from) (c .before .before .before .args .n) (omega arith) (omega arith)
 
-add-a : tie.Need-add-a Inv-loop μ-loop
-add-a c = search needs
+loop-holds : tie.Need-loop-holds Inv-loop μ-loop
+unfolding wordsFrom
+loop-holds c = (omega arith, refl)
 
-sub-k : tie.Need-sub-k Inv-loop μ-loop
-sub-k c = search needs
+add-is-printable : tie.Need-add-is-printable Inv-loop μ-loop
+add-is-printable c = search needs
+
+mul-is-printable : tie.Need-mul-is-printable Inv-loop μ-loop
+mul-is-printable c = search needs
+
+shared-slice-read-is-printable : tie.Need-shared-slice-read-is-printable Inv-loop μ-loop
+shared-slice-read-is-printable c = search needs
+
+is-printable-requires : tie.Need-is-printable-requires Inv-loop μ-loop
+is-printable-requires c κs = search needs
+
+both-requires : tie.Need-both-requires Inv-loop μ-loop
+both-requires c κs = search needs
+
+add-i : tie.Need-add-i Inv-loop μ-loop
+add-i c = search needs
 
 loop-less : tie.Need-loop-less Inv-loop μ-loop
 loop-less c = search needs
 
 loop-again : tie.Need-loop-again Inv-loop μ-loop
-unfolding printable
 loop-again c =
-    let c2 = c .before .before in
-    let c4 = c2 .before .before in
-    let c6 = c4 .before .before in
-    let ws = c6 .args .body .now in let l = c4 .loop in
-    (omega arith, and-yes (printable (word ws (l .a))) _ (rw (le-leb 32 (word ws (l .a)) (omega (arith, c2 .word .ensures)), le-leb (word ws (l .a)) 126 (omega (arith, c2 .word .ensures)))) ∙ sym (bytes-step ws (l .a) (l .k) (search needs)) ∙ l .inv .1)
+    let l = c .before .before .before .before .loop in
+    let a = c .before .before .before .before .before .before .before .before .args in (
+      omega arith,
+      c .both .ensures ∙ ap (λ (t : Bool). t && c .before .is-printable .result) (l .inv .1) ∙ ap (λ (t : Bool). all printable (wordsFrom (a .body .now) (a .from) (l .i)) && t) (c .before .is-printable .ensures) ∙ sym (bytes-more (a .body .now) (a .from) (l .i)),
+    )
 
 returns-3 : tie.Need-returns-3 Inv-loop μ-loop
-unfolding wordsFrom
-returns-3 c = let e : c .before .loop .k ≡ 0 = omega arith in rw e at (c .before .loop .inv .1)
+returns-3 c =
+    let e : c .before .loop .i ≡ c .before .before .before .before .before .args .n = omega arith in
+    rw e at (c .before .loop .inv .1)
 
 pub bytes-fit-spec : {M : Type 1} → statement M
 bytes-fit-spec =
@@ -67,12 +71,16 @@ bytes-fit-spec =
     (tie.spec
     Inv-loop
     μ-loop
-    loop-holds
-    word-requires
     returns
+    add-if2
     returns-2
-    add-a
-    sub-k
+    loop-holds
+    add-is-printable
+    mul-is-printable
+    shared-slice-read-is-printable
+    is-printable-requires
+    both-requires
+    add-i
     loop-less
     loop-again
     returns-3)
