@@ -9,6 +9,7 @@ use borrow.Author.Tests.{le-leb, eqb-true}
 use lib.Dec.{T, ltb, leb, eqb, ltb→lt, leb→le}
 use Rattle.lines.specs.Reach.{inside, difference-inside}
 use Rattle.text.specs.Tests.{below, and-l, and-r, both, all, all-append}
+use Rattle.entry.specs.declared.Judged.{Judged}
 use Rattle.entry.specs.declared.Judged.the-variants.{Refuse, Skip, Write}
 use Rattle.x64.specs.declared.Op.{Op}
 use Rattle.x64.specs.declared.Op.the-variants.{PushNonVolatile, Alloc, SaveRsp, SaveFp, SetFpRegister, PushMachineFrame, Other, Undecodable}
@@ -234,24 +235,48 @@ infos-ok ws (suc m) a h =
 pub chain-reach : (ws : List ℕ) → T (x64Layout ws) → reaches 8 (chain ws) ≡ inReach 8 (chain ws)
 chain-reach ws h = rw (chain-run ws) (reach-is 8 (chainFrom ws (infoCount ws) 4) (omega arith) (infos-ok ws (infoCount ws) 4 (layout-infos ws h)))
 
--- what refusal number 0 says
-pub reach-none : (limit : ℕ) (ws : List ℕ) → T (x64Layout ws) → x64Reach limit ws ≡ 0 → T (reaches 8 (chain ws))
-unfolding x64Reach
-reach-none limit ws l h = rw (chain-reach ws l) (go (ltb limit (infoCount ws)) (inReach 8 (chain ws)) (ltb 1 (setCount (chain ws))) h)
-  where
-    go : (a b d : Bool) → _≡_ {A = ℕ} (cond a 5 (cond b (cond d 7 0) 6)) 0 → T b
-    go true b d k = absurd (omega arith)
-    go false true d k = tt
-    go false false d k = absurd (omega arith)
+-- ---- an entry in two parts: before its chain is looked at, and by what the chain comes to
 
--- an entry that is written keeps the layout and is in reach
-pub written : (limit : ℕ) (ws : List ℕ) → x64Judged limit ws ≡ Write → T (x64Layout ws) × T (reaches 8 (chain ws))
-unfolding x64Judged
-written limit ws h = go (x64Layout ws) (x64Skipped limit ws) (eqb (x64Reach limit ws) 0) refl refl h
+-- refused by 4 or 5, skipped, or admitted
+unfoldable pub admitted : ℕ → List ℕ → Judged
+admitted limit ws = cond (x64Layout ws) (cond (x64Skipped limit ws) Skip (cond (ltb limit (infoCount ws)) (Refuse 5) Write)) (Refuse 4)
+
+-- refusals 6 and 7
+unfoldable pub chainNumber : List ℕ → ℕ
+chainNumber ws = cond (inReach 8 (chain ws)) (cond (ltb 1 (setCount (chain ws))) 7 0) 6
+
+abbrev pub chainJudged : List ℕ → Judged
+chainJudged ws = cond (eqb (chainNumber ws) 0) Write (Refuse (chainNumber ws))
+
+abbrev pub then : Judged → Judged → Judged
+then (Refuse n) j = Refuse n
+then Skip j = Skip
+then Write j = j
+
+pub judged-by : (limit : ℕ) (ws : List ℕ) → x64Judged limit ws ≡ then (admitted limit ws) (chainJudged ws)
+unfolding x64Judged x64Reach admitted chainNumber
+judged-by limit ws = go (x64Layout ws) (x64Skipped limit ws) (ltb limit (infoCount ws)) (cond (inReach 8 (chain ws)) (cond (ltb 1 (setCount (chain ws))) 7 0) 6)
   where
-    go : (a b c : Bool) → x64Layout ws ≡ a → eqb (x64Reach limit ws) 0 ≡ c → cond a (cond b Skip (cond c Write (Refuse (x64Reach limit ws)))) (Refuse 4) ≡ Write
-        → T (x64Layout ws) × T (reaches 8 (chain ws))
-    go true false true p q k = (rw p tt, reach-none limit ws (rw p tt) (eqb-true (x64Reach limit ws) 0 q))
-    go true false false p q k = let z : _≡_ {A = ℕ} 0 1 = cc in absurd (omega arith)
-    go true true c p q k = let z : _≡_ {A = ℕ} 0 1 = cc in absurd (omega arith)
-    go false b c p q k = let z : _≡_ {A = ℕ} 0 1 = cc in absurd (omega arith)
+    go : (a b d : Bool) (n : ℕ) → cond a (cond b Skip (cond (eqb (cond d 5 n) 0) Write (Refuse (cond d 5 n)))) (Refuse 4)
+        ≡ then (cond a (cond b Skip (cond d (Refuse 5) Write)) (Refuse 4)) (cond (eqb n 0) Write (Refuse n))
+    go false b d n = refl
+    go true true d n = refl
+    go true false true n = refl
+    go true false false n = refl
+
+pub admitted-fits : (limit : ℕ) (ws : List ℕ) → admitted limit ws ≡ Write → T (x64Layout ws)
+unfolding admitted
+admitted-fits limit ws h = go (x64Layout ws) h
+  where
+    go : (a : Bool) → cond a (cond (x64Skipped limit ws) Skip (cond (ltb limit (infoCount ws)) (Refuse 5) Write)) (Refuse 4) ≡ Write → T a
+    go true k = tt
+    go false k = let z : _≡_ {A = ℕ} 0 1 = cc in absurd (omega arith)
+
+-- a chain that refuses nothing is in reach
+pub chain-none : (ws : List ℕ) → T (x64Layout ws) → chainNumber ws ≡ 0 → T (reaches 8 (chain ws))
+unfolding chainNumber
+chain-none ws l h = rw (chain-reach ws l) (go (inReach 8 (chain ws)) (ltb 1 (setCount (chain ws))) h)
+  where
+    go : (b d : Bool) → _≡_ {A = ℕ} (cond b (cond d 7 0) 6) 0 → T b
+    go true d k = tt
+    go false d k = absurd (omega arith)

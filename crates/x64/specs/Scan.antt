@@ -13,8 +13,8 @@ use Rattle.x64.specs.declared.Scan.{Scan}
 use Rattle.lines.specs.Lines.{Form, registerPlus}
 use Rattle.text.specs.Text.{ascii}
 use Rattle.names.specs.Names.{peName}
-use Rattle.x64.specs.X64.{growthOf, valueOf, run, total, opCfa, cfaForm, isMachine, anyMachine, isSet, setCount}
-use Rattle.x64.specs.Index.{within, reaches}
+use Rattle.x64.specs.X64.{chain, growthOf, valueOf, run, total, opCfa, cfaForm, isMachine, anyMachine, isSet, setCount, inReach, x64Layout}
+use Rattle.x64.specs.Index.{within, reaches, chain-reach, chainNumber}
 
 unfoldable pub scanStart : Scan
 scanStart = record { total = 8; lost = false; set = false; twice = false; frame = 0; place = 0; offset = 0; machine = false }
@@ -231,6 +231,18 @@ scan-lost s (o ∷ os) h =
 pub chain-lost : (os : List Op) → scanned scanStart os .lost ≡ not (reaches 8 os)
 unfolding scanStart
 chain-lost os = scan-lost scanStart os refl
+
+-- refusals 6 and 7 from what the pass kept
+abbrev pub scanNumber : Scan → ℕ
+scanNumber s = cond (s .lost) 6 (cond (s .twice) 7 0)
+
+pub chain-number : (ws : List ℕ) → T (x64Layout ws) → scanNumber (scanned scanStart (chain ws)) ≡ chainNumber ws
+unfolding chainNumber
+chain-number ws l = go (reaches 8 (chain ws)) refl
+  where
+    go : (b : Bool) → reaches 8 (chain ws) ≡ b → scanNumber (scanned scanStart (chain ws)) ≡ cond (inReach 8 (chain ws)) (cond (ltb 1 (setCount (chain ws))) 7 0) 6
+    go true e = rw (chain-lost (chain ws), ← chain-reach ws l, e, scan-twice (chain ws) (rw e tt)) refl
+    go false e = rw (chain-lost (chain ws), ← chain-reach ws l, e) refl
 
 -- ---- the total, and the place where a frame register was set, stay below 2^31
 

@@ -26,11 +26,11 @@ ghost use lib.IntN.{subℕ, pos};
 ghost use lib.Dec.{T};
 ghost use Rattle.text.specs.Text.{Put, ascii};
 ghost use Rattle.names.specs.Names.{peName};
-ghost use Rattle.entry.specs.Entry.{Processed};
+ghost use Rattle.entry.specs.Entry.{Processed, comesTo};
 ghost use Rattle.lines.specs.Lines.{rule, cfa, registerPlus, atRegisterPlus, atCfaMinus, ruleText, rulesText};
-ghost use Rattle.x64.specs.X64.{chain, opOf, growthOf, valueOf, run, machineRules, opRules, raRules, x64Text, opFits, opsFit, infoFits, x64Layout, allZero, undecodableOps, undecodableInfos, x64Skipped, x64Reach, x64Judged, x64Entry};
-ghost use Rattle.x64.specs.Index.{opAt, opsRun, chainFrom, growths, reaches};
-ghost use Rattle.x64.specs.Scan.{scanStart, lose, framed, advance, scanStep, scanned, cfaOf};
+ghost use Rattle.x64.specs.X64.{chain, opOf, growthOf, valueOf, run, machineRules, opRules, raRules, x64Text, opFits, opsFit, infoFits, x64Layout, allZero, undecodableOps, undecodableInfos, x64Skipped, x64Entry};
+ghost use Rattle.x64.specs.Index.{opAt, opsRun, chainFrom, growths, reaches, admitted, chainJudged};
+ghost use Rattle.x64.specs.Scan.{scanStart, lose, framed, advance, scanStep, scanned, cfaOf, scanNumber};
 
 // An unwind operation with the words that it uses; those that need the frame register carry it with its offset.
 pub enum Op {
@@ -415,11 +415,11 @@ fn put_ra(out: &mut [u8], at: usize, machine: bool) -> usize
     put_return(out, at, 8)
 }
 
-fn put_entry(out: &mut [u8], at: usize, body: &[u32]) -> usize
-    requires { ⌜ T (x64Layout (now body)) × T (reaches 8 (chain (now body))) ⌝ }
+// The line; s is what the chain came to.
+fn put_entry(out: &mut [u8], at: usize, body: &[u32], s: Scan) -> usize
+    requires { ⌜ T (x64Layout (now body)) × T (reaches 8 (chain (now body))) × (s ≡ scanned scanStart (chain (now body))) ⌝ }
     ensures { λ r. ⌜ Put (now (out .entry)) at (x64Text (now (body .entry))) (now (out .exit)) r ⌝ }
 {
-    let s = scan_chain(body);
     let begin = word(body, 0);
     let size = less(word(body, 1), begin);
     let p = put_init(out, at, begin as u64, size);
@@ -429,15 +429,10 @@ fn put_entry(out: &mut [u8], at: usize, body: &[u32]) -> usize
     put_byte(out, p, b'\n')
 }
 
-// Refusals 5, 6 and 7, in this order; 0: none.
-fn reach(body: &[u32], limit: u32) -> u32
-    requires { ⌜ T (x64Layout (now body)) ⌝ }
-    ensures { λ r. ⌜ r ≡ x64Reach limit (now (body .entry)) ⌝ }
+// Refusals 6 and 7, in this order; 0: none.
+fn refusal(s: Scan) -> u32
+    ensures { λ r. ⌜ r ≡ scanNumber s ⌝ }
 {
-    if limit < word(body, 3) {
-        return 5;
-    }
-    let s = scan_chain(body);
     if s.lost {
         return 6;
     }
@@ -445,6 +440,24 @@ fn reach(body: &[u32], limit: u32) -> u32
         return 7;
     }
     0
+}
+
+// An entry that is admitted: its chain is looked at once, for the refusals and for the line.
+fn put_admitted(out: &mut [u8], at: usize, body: &[u32], last: Last) -> Wrote
+    requires { ⌜ T (x64Layout (now body)) ⌝ }
+    ensures { λ r. ⌜ Processed (comesTo (chainJudged (now (body .entry))) (x64Text (now (body .entry))) last last) (now (out .entry)) at (now (out .exit)) r ⌝ }
+{
+    let s = scan_chain(body);
+    let number = refusal(s);
+    if number != 0 {
+        return Wrote { number, at, last };
+    }
+    let p = put_entry(out, at, body, s);
+    Wrote {
+        number: 0,
+        at: p,
+        last,
+    }
 }
 
 // ---- refusal 4
@@ -603,9 +616,9 @@ fn skipped(body: &[u32], limit: u32) -> bool
 
 // ---- one entry
 
-// What becomes of an entry: refused by 4 to 7, skipped, or written.
-fn judge(body: &[u32], limit: u32) -> Judged
-    ensures { λ r. ⌜ r ≡ x64Judged limit (now (body .entry)) ⌝ }
+// What becomes of an entry before its chain is looked at: refused by 4 or 5, skipped, or admitted.
+fn admit(body: &[u32], limit: u32) -> Judged
+    ensures { λ r. ⌜ r ≡ admitted limit (now (body .entry)) ⌝ }
 {
     if !layout(body) {
         return Judged::Refuse(4);
@@ -613,9 +626,8 @@ fn judge(body: &[u32], limit: u32) -> Judged
     if skipped(body, limit) {
         return Judged::Skip;
     }
-    let number = reach(body, limit);
-    if number != 0 {
-        return Judged::Refuse(number);
+    if limit < word(body, 3) {
+        return Judged::Refuse(5);
     }
     Judged::Write
 }
@@ -624,7 +636,7 @@ fn judge(body: &[u32], limit: u32) -> Judged
 pub fn process_pe(out: &mut [u8], at: usize, body: &[u32], limit: u32, last: Last) -> Wrote
     ensures { λ r. ⌜ Processed (x64Entry limit last (now (body .entry))) (now (out .entry)) at (now (out .exit)) r ⌝ }
 {
-    let judged = judge(body, limit);
+    let judged = admit(body, limit);
     match judged {
         Judged::Refuse(number) => Wrote { number, at, last },
         Judged::Skip => Wrote {
@@ -632,13 +644,6 @@ pub fn process_pe(out: &mut [u8], at: usize, body: &[u32], limit: u32, last: Las
             at,
             last,
         },
-        Judged::Write => {
-            let p = put_entry(out, at, body);
-            Wrote {
-                number: 0,
-                at: p,
-                last,
-            }
-        }
+        Judged::Write => put_admitted(out, at, body, last),
     }
 }

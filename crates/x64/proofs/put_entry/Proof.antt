@@ -1,9 +1,9 @@
 -- `put_entry`: the beginning, the CFA, the chain, the return address and the newline, put one after the other.
 use Prim.Native.Nat.{_-_}
 use mathlib.Core.Path.{ap, _∙_}
+use mathlib.Core.Bool.{Bool}
 use Rattle.text.specs.Text.Laws.{put-as}
 use Rattle.lines.specs.Lines.{Form, rule, cfa, ruleText, rulesText}
-use mathlib.Core.Bool.{Bool}
 use Rattle.x64.specs.X64.{word, chain, run, total, opCfa, opRules, cfaForm, anyMachine, raRules, ranRules, x64Text}
 use Rattle.x64.specs.Scan.{scanStart, cfaOf, scan-cfa, scan-machine, scanned-small}
 use Rattle.x64.proofs.Rules.{put-line}
@@ -11,9 +11,6 @@ use native.Mathlib.Omega.{arith}
 use borrow.Author.Needs.{needs}
 use Rattle.x64.proofs.put_entry.Statement.{statement}
 use Rattle.x64.proofs.put_entry.Tie as tie
-
-scan-chain-requires : tie.Need-scan-chain-requires
-scan-chain-requires c κs = search needs
 
 word-requires : tie.Need-word-requires
 word-requires c κs = search needs
@@ -32,10 +29,7 @@ put-init-requires c κs = search needs
 
 put-scan-requires : tie.Need-put-scan-requires
 unfolding scanStart
-put-scan-requires c κs =
-    let scan-chain = c .before .before .before .before .before .before .before .before .scan-chain in
-    let args = c .before .before .before .before .before .before .before .before .before .before .before .args in
-    rw (scan-chain .ensures) (scanned-small scanStart (chain (args .body .now)) (omega arith))
+put-scan-requires c κs = rw (c .before .before .before .before .before .before .before .before .before .before .pre .2) (scanned-small scanStart (chain (c .before .before .before .before .before .before .before .before .before .before .args .body .now)) (omega arith))
 
 put-chain-requires : tie.Need-put-chain-requires
 put-chain-requires c κs = search needs
@@ -52,31 +46,21 @@ same-length c = search needs
 returns : tie.Need-returns
 unfolding x64Text ranRules
 returns c =
-    let put-ra = c .before .before .before .before .before .before .put-ra in
-    let put-chain = c .before .before .before .before .before .before .before .before .before .before .put-chain in
-    let put-scan = c .before .before .before .before .before .before .before .before .before .before .before .before .before .before .put-scan in
-    let put-init = c .before .before .before .before .before .before .before .before .before .before .before .before .before .before .before .before .before .before .put-init in
-    let less = c .before .before .before .before .before .before .before .before .before .before .before .before .before .before .before .before .before .before .before .before .less in
-    let word2 = c .before .before .before .before .before .before .before .before .before .before .before .before .before .before .before .before .before .before .before .before .before .word2 in
-    let word′ = c .before .before .before .before .before .before .before .before .before .before .before .before .before .before .before .before .before .before .before .before .before .before .word in
-    let scan-chain = c .before .before .before .before .before .before .before .before .before .before .before .before .before .before .before .before .before .before .before .before .before .before .before .scan-chain in
-    let args = c .before .before .before .before .before .before .before .before .before .before .before .before .before .before .before .before .before .before .before .before .before .before .before .before .before .before .args in
-    let pre = c .before .before .before .before .before .before .before .before .before .before .before .before .before .before .before .before .before .before .before .before .before .before .before .before .before .before .pre in
-    let ws = args .body .now in
+    let ws = c .before .before .before .before .before .before .before .before .before .before .before .before .before .before .before .before .before .before .before .before .before .before .before .before .before .args .body .now in
     let os = chain ws in
-    let r = pre .1 in
-    let s = scan-chain .ensures in
-    put-line (word ws 0) (word ws 1 - word ws 0) (rule cfa (cfaForm (run opCfa 8 os) (total 8 os))) (run opRules 8 os)
-    (raRules (anyMachine os)) (put-as (put-init .ensures) (rw (less .ensures, word2 .ensures, word′ .ensures)))
-    (put-as (put-scan .ensures) (ap (λ (f : Form). ruleText (rule cfa f)) (ap cfaOf s ∙ scan-cfa os r))) (put-chain .ensures)
-    (put-as (put-ra .ensures) (ap (λ (m : Bool). rulesText (raRules m)) (ap (λ x. x .machine) s ∙ scan-machine os r)))
+    let r = c .before .before .before .before .before .before .before .before .before .before .before .before .before .before .before .before .before .before .before .before .before .before .before .before .before .pre .1 in
+    let s = c .before .before .before .before .before .before .before .before .before .before .before .before .before .before .before .before .before .before .before .before .before .before .before .before .before .pre .2 in
+    put-line (word ws 0) (word ws 1 - word ws 0) (rule cfa (cfaForm (run opCfa 8 os) (total 8 os))) (run opRules 8 os) (raRules (anyMachine os))
+    (put-as (c .before .before .before .before .before .before .before .before .before .before .before .before .before .before .before .before .before .before .put-init .ensures) (rw (c .before .before .before .before .before .before .before .before .before .before .before .before .before .before .before .before .before .before .before .before .less .ensures, c .before .before .before .before .before .before .before .before .before .before .before .before .before .before .before .before .before .before .before .before .before .word2 .ensures, c .before .before .before .before .before .before .before .before .before .before .before .before .before .before .before .before .before .before .before .before .before .before .word .ensures)))
+    (put-as (c .before .before .before .before .before .before .before .before .before .before .before .before .before .before .put-scan .ensures) (ap (λ (f : Form). ruleText (rule cfa f)) (ap cfaOf s ∙ scan-cfa os r)))
+    (c .before .before .before .before .before .before .before .before .before .before .put-chain .ensures)
+    (put-as (c .before .before .before .before .before .before .put-ra .ensures) (ap (λ (m : Bool). rulesText (raRules m)) (ap (λ x. x .machine) s ∙ scan-machine os r)))
     (c .before .before .put-byte .ensures)
 
 pub put-entry-spec : {M : Type 1} → statement M
 put-entry-spec =
     tie.close
     (tie.spec
-    scan-chain-requires
     word-requires
     word-requires-2
     less-requires
