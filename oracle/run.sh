@@ -1,6 +1,7 @@
 #!/bin/sh
 # Builds and runs one of the programs: run.sh NAME WORDS...
-# NAME is test, model_vs_rust, vectors, port_vs_model, first_difference, port_vs_rust, bindings_vs_model or bench.
+# NAME is test, model_vs_rust, vectors, rust_lines, cases_vs_rust, port_vs_model, first_difference, port_vs_rust,
+# bindings_vs_model or bench.
 # What needs the Rust source or the port's archive says so where these are not at hand, and is skipped.
 set -eu
 
@@ -33,7 +34,7 @@ need_port() {
 
 case $name in
 test) package=model ;;
-model_vs_rust | vectors) need_rust; package=rust ;;
+model_vs_rust | vectors | rust_lines | cases_vs_rust) need_rust; package=rust ;;
 port_vs_model | first_difference) need_port; package=port ;;
 port_vs_rust) need_rust; need_port; package=port_rust ;;
 bench) need_rust; need_port; package=bench ;;
@@ -44,9 +45,10 @@ bindings_vs_model) need_port; package=bindings ;;
     ;;
 esac
 
-cd "$oracle"
 if [ "$name" = test ]; then
+    cd "$oracle"
     exec cargo test --offline --release -q -j1 -p model
 fi
-cargo build --offline --release -q -j1 -p "$package" --bin "$name"
-exec "${CARGO_TARGET_DIR:-target}/release/$name" "$@"
+# Files among the words are looked up where the command is given.
+built=$(cd "$oracle" && cargo build --offline --release -q -j1 -p "$package" --bin "$name" && cd "${CARGO_TARGET_DIR:-target}" && pwd)
+exec "$built/release/$name" "$@"

@@ -3,6 +3,7 @@
 include!(concat!(env!("OUT_DIR"), "/source.rs"));
 
 mod arm64;
+pub mod cases;
 mod dwarf;
 mod pdb;
 mod x64;
