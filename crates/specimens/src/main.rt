@@ -1,6 +1,6 @@
-// Runs the cases of standard input: books of all four kinds, document 01's cases without a star and books on both sides of its limits.
+// Runs the cases of standard input: document 01's specimens without a star, and books of all four kinds on both sides of its limits.
 //
-// A line is 'NAME | LIMIT WORK TEXT | WORDS': a name, the limit and how long the work area and the text buffer are, the book's words in decimal.
+// A case is a line 'NAME | LIMIT WORK TEXT | WORDS': a name, the limit and how long the work area and the text buffer are, the book's words in decimal.
 // N* stands for the last three words N times more, and N: for the last two. A line without two bars is a comment, and so is one with a # before.
 //
 // For each case it prints the name, the number, the entries and the length; how many bytes of the work area are zero, and how many of the rest are as
@@ -80,7 +80,7 @@ fn bar(line: &[u8], from: usize) -> usize {
 
 // ---- books, from words in decimal
 
-// A number that says how many words of the book there are.
+// The number, if the book has room for so many words, and otherwise 0.
 fn within(n: usize, book: &[u32]) -> usize
     ensures { λ r. ⌜ Counts r (now (book .entry)) ⌝ }
 {
@@ -127,7 +127,7 @@ fn wide(x: u32) -> usize
     x as usize
 }
 
-// A word, by the byte behind it.
+// A word that has ended, by the byte behind it.
 fn ended(book: &mut [u32], n: usize, word: u32, c: u8) -> usize {
     if c == b'*' {
         return again(book, n, 3, 3 * wide(word));
@@ -142,6 +142,7 @@ fn is_digit(c: u8) -> bool {
     b'0' <= c && c <= b'9'
 }
 
+// One byte more, behind this word.
 fn feed(book: &mut [u32], n: usize, word: u64, c: u8) -> usize {
     if is_digit(c) {
         return n;
