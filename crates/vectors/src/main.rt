@@ -4,8 +4,7 @@
 // Little-endian words, as oracle/README.md has them: the number of cases; for each its limit, number, entries, text length in bytes, book length in
 // words, the book, the text padded with zeros to whole words. Another run of cases may follow, with its own number before it.
 use libc::STDOUT_FILENO;
-ghost use Prim.Native.Nat.{_^_, _≤_, _<_};
-ghost use lib.ListN.{length};
+ghost use Prim.Native.Nat.{_≤_};
 
 const STDIN_FILENO: i32 = 0;
 
@@ -20,56 +19,13 @@ const MOST_RUNS: u32 = 16;
 
 // ---- reading
 
-// The byte at i, and 0 past the end.
-fn byte(bytes: &[u8], i: usize) -> u32
-    ensures { λ r. ⌜ r < 256 ⌝ }
-{
-    if i < bytes.len() {
-        return wide(bytes[i]);
-    }
-    0
-}
-
-fn wide(x: u8) -> u32
-    ensures { λ r. ⌜ r < 256 ⌝ }
-{
-    x as u32
-}
-
-fn word(bytes: &[u8], i: usize) -> u32
-    requires { ⌜ i < 2 ^ 32 ⌝ }
-{
-    byte(bytes, i)
-        + 256 * byte(bytes, i + 1)
-        + 65536 * byte(bytes, i + 2)
-        + 16777216 * byte(bytes, i + 3)
-}
-
-fn store(out: &mut [u32], i: usize, word: u32) {
-    if i < out.len() {
-        out[i] = word;
-    }
-}
-
-// The first n words of the bytes.
-fn words(bytes: &[u8], n: usize, out: &mut [u32])
-    requires { ⌜ n ≤ 4096 ⌝ }
-{
-    let mut i = 0;
-    while i < n {
-        store(out, i, word(bytes, 4 * i));
-        i += 1;
-    }
-}
-
 // The next word of the input, and 0 at its end.
 fn read_word() -> u32 {
     let mut bytes = [0u8; 4];
+    let mut word = [0u32; 1];
     let n = io::read_full(STDIN_FILENO, &mut bytes);
-    if n < 4 {
-        return 0;
-    }
-    word(&bytes, 0)
+    input::words(&bytes[..n], &mut word);
+    word[0]
 }
 
 // The next n bytes of the input, if there is room for them.
@@ -80,6 +36,14 @@ fn read_bytes(out: &mut [u8], n: usize) {
 }
 
 // ---- comparing
+
+// The byte at i, and 0 past the end.
+fn byte(bytes: &[u8], i: usize) -> u8 {
+    if i < bytes.len() {
+        return bytes[i];
+    }
+    0
+}
 
 fn same(a: &[u8], b: &[u8], n: usize) -> bool {
     let mut i = 0;
@@ -118,7 +82,7 @@ fn compared(limit: u32, number: u32, entries: u32, length: u32, size: u32) -> bo
     let mut due = [0u8; 8192];
     let n = size as usize;
     read_bytes(&mut bytes, 4 * n);
-    words(&bytes, n, &mut book);
+    input::words(&bytes, &mut book);
     read_bytes(&mut due, (length as usize + 3) / 4 * 4);
     agrees(&book[..n], limit, number, entries, length, &due)
 }

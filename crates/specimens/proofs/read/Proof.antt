@@ -7,16 +7,16 @@ use Rattle.specimens.proofs.read.Statement.{statement}
 use Rattle.specimens.proofs.read.Tie as tie
 
 abbrev Inv-loop : tie.InvT-loop
-Inv-loop words book₀ n₀ word₀ i₀ book n word i = length book ≡ length book₀
+Inv-loop line from to book₀ n₀ word₀ i₀ book n word i = length book ≡ length book₀
 
 abbrev μ-loop : tie.MeasureT-loop
-μ-loop words book₀ n₀ word₀ i₀ book n word i = length words - i
+μ-loop line from to book₀ n₀ word₀ i₀ book n word i = to - i
 
 loop-holds : tie.Need-loop-holds Inv-loop μ-loop
 loop-holds c = search needs
 
-shared-slice-read-c : tie.Need-shared-slice-read-c Inv-loop μ-loop
-shared-slice-read-c c = search needs
+byte-requires : tie.Need-byte-requires Inv-loop μ-loop
+byte-requires c κs = search needs
 
 feed-requires : tie.Need-feed-requires Inv-loop μ-loop
 feed-requires c κs = search needs
@@ -33,6 +33,12 @@ loop-less c = search needs
 loop-again : tie.Need-loop-again Inv-loop μ-loop
 loop-again c = search needs
 
+feed-requires-2 : tie.Need-feed-requires-2 Inv-loop μ-loop
+feed-requires-2 c κs = search needs
+
+within-requires : tie.Need-within-requires Inv-loop μ-loop
+within-requires c κs = search needs
+
 same-length : tie.Need-same-length Inv-loop μ-loop
 same-length c = search needs
 
@@ -46,11 +52,13 @@ read-spec =
     Inv-loop
     μ-loop
     loop-holds
-    shared-slice-read-c
+    byte-requires
     feed-requires
     digit-requires
     add-i
     loop-less
     loop-again
+    feed-requires-2
+    within-requires
     same-length
     returns)

@@ -42,7 +42,7 @@ array-share-prefix-book c = search needs
 slice-aggregate-agrees : tie.Need-slice-aggregate-agrees
 slice-aggregate-agrees c =
     let w = c .before .before .before .before .before .words in
-    sym (length-take-le _ (w .last .1 .1 .0) (omega (arith, w .kept .1 .1 .0)))
+    sym (length-take-le _ (w .last .1 .0) (omega (arith, w .kept .1 .0)))
 
 slice-aggregate-agrees-2 : tie.Need-slice-aggregate-agrees-2
 slice-aggregate-agrees-2 c = search needs
