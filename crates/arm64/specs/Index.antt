@@ -5,10 +5,10 @@ use native.Mathlib.Omega.{arith}
 use mathlib.Core.Bool.{Bool, true, false, cond, _&&_, _||_, false≢true}
 use mathlib.Core.List.{List, [], _∷_, _++_}
 use native.Mathlib.Decide.{decLe, decLt}
-use borrow.Author.Tests.{le-leb, lt-leb}
+use borrow.Author.Tests.{le-leb, lt-leb, lt-ltb, le-ltb}
 use lib.IntN.{subℕ}
 use lib.Dec.{T, ltb, leb, eqb, ltb→lt, leb→le}
-use Rattle.text.specs.Tests.{below, above as above′, and-l, and-r}
+use Rattle.text.specs.Tests.{and-l, and-r}
 use Rattle.lines.specs.Reach.{inside}
 use Rattle.entry.specs.declared.Judged.the-variants.{Refuse, Skip, Write}
 use Rattle.arm64.specs.declared.Op.{Op}
@@ -101,21 +101,21 @@ layout-few ws h = leb→le (opCount ws) 1024 (and-l (leb (opCount ws) 1024) _ h)
 
 pub inside-below : (a b : ℕ) → a < b → leb (b - a) (2 ^ 31) ≡ inside (subℕ a b)
 unfolding inside
-inside-below a b h = rw (below a b h) (go (decLe (b - a) (2 ^ 31)))
+inside-below a b h = rw (lt-ltb a b h) (go (decLe (b - a) (2 ^ 31)))
   where
     go : Dec (b - a ≤ 2 ^ 31) → leb (b - a) (2 ^ 31) ≡ ltb (b - suc a) (2 ^ 31)
-    go (yes p) = rw (le-leb (b - a) (2 ^ 31) p, below (b - suc a) (2 ^ 31) (omega arith))
-    go (no p) = rw (lt-leb (b - a) (2 ^ 31) (omega arith), above′ (b - suc a) (2 ^ 31) (omega arith))
+    go (yes p) = rw (le-leb (b - a) (2 ^ 31) p, lt-ltb (b - suc a) (2 ^ 31) (omega arith))
+    go (no p) = rw (lt-leb (b - a) (2 ^ 31) (omega arith), le-ltb (b - suc a) (2 ^ 31) (omega arith))
 
 pub inside-above : (a b : ℕ) → b ≤ a → ltb (a - b) (2 ^ 31) ≡ inside (subℕ a b)
 unfolding inside
-inside-above a b h = rw (above′ a b h)
+inside-above a b h = rw (le-ltb a b h)
 
 inside-bound : (a b : ℕ) → T (inside (subℕ a b)) → a < b + 2 ^ 31
 unfolding inside
 inside-bound a b h = elim (decLt a b) [
   | yes p ↦ omega arith
-  | no p ↦ let q : b ≤ a = omega arith in omega (arith, ltb→lt (a - b) (2 ^ 31) (rw (above′ a b q) at h))
+  | no p ↦ let q : b ≤ a = omega arith in omega (arith, ltb→lt (a - b) (2 ^ 31) (rw (le-ltb a b q) at h))
 ]
 
 -- ---- what keeps the code's sums in range
@@ -161,7 +161,7 @@ saved-fits false p h e = absurd (false≢true e)
 fitting : (address v : ℕ) (e : BreakpadEncoder) → T (fits address v e) → Fitting v e
 unfolding fits inside
 fitting address v e h =
-    let a : T (ltb v (2 ^ 31)) = search (and-l, and-r) in
+    let a : T (ltb v (2 ^ 31)) = search and-l in
     let b : T (ltb (e .«stack_size») (2 ^ 31)) = search (and-l, and-r) in
     let p : T (savedFits (e .one) (e .first)) = search (and-l, and-r) in
     let q : T (savedFits (e .two) (e .second)) = search (and-l, and-r) in
@@ -248,10 +248,3 @@ written ws h = go (armLayout ws) (undecodable ws 3 (opCount ws)) (inReach (word 
     go true false false p q k = let z : _≡_ {A = ℕ} 0 1 = cc in absurd (omega arith)
     go true true c p q k = let z : _≡_ {A = ℕ} 0 1 = cc in absurd (omega arith)
     go false b c p q k = let z : _≡_ {A = ℕ} 0 1 = cc in absurd (omega arith)
-
--- a row of tests, one after the other
-pub and-no : (a b : Bool) → a ≡ false → false ≡ (a && b)
-and-no a b h = rw h
-
-pub and-yes : (a b : Bool) → a ≡ true → b ≡ (a && b)
-and-yes a b h = rw h

@@ -11,6 +11,7 @@ use Rattle.text.specs.Text.{ascii}
 use Rattle.text.specs.Tests.{all, all-append, and-l, both}
 use Rattle.names.specs.Names.{arm64Name}
 use Rattle.lines.specs.Lines.{Rule, rule, register, cfa, Line, render, nameOk, ruleOk, lineOk}
+use Rattle.lines.specs.Lines.Laws.{render-none}
 use Rattle.lines.specs.Rules.Laws.{arm64-ok}
 use Rattle.entry.specs.declared.Judged.{Judged}
 use Rattle.entry.specs.declared.Judged.the-variants.{Refuse, Skip, Write}
@@ -120,17 +121,13 @@ unfolding run linesFrom
 run-lines a z e ds [] k = refl
 run-lines a z e ds (o ∷ os) k = rw (step-rules e ds o k, run-lines a z (stepped e o) (o ∷ ds) os (kept-step e ds o k))
 
-nothing : [] ≡ render true []
-unfolding render
-nothing = refl
-
 pub arm-entry-text : (last : Last) (ws : List ℕ) → armEntry last ws .text ≡ render true (armLines ws)
 unfolding armEntry armLines armText
 arm-entry-text last ws = go (armJudged ws)
   where
     go : (j : Judged) → comesTo j (render true (run (word ws 0) (word ws 1) 0 startEncoder (ops ws))) last last .text ≡ render true (ifWritten j (linesFrom (word ws 0) (word ws 1) [] (ops ws)))
-    go (Refuse n) = nothing
-    go Skip = nothing
+    go (Refuse n) = render-none true
+    go Skip = render-none true
     go Write = ap (render true) (run-lines (word ws 0) (word ws 1) startEncoder [] (ops ws) kept-start)
 
 -- ---- every line is well formed

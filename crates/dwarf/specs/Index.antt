@@ -35,20 +35,6 @@ unfolding rowsFit
 rows-fit-step ws zero a h = absurd (omega arith)
 rows-fit-step ws (suc m) a h = let e : suc m - 1 ≡ m = omega arith in rw e
 
--- ---- tests
-
-pub and-no : (a b : Bool) → a ≡ false → false ≡ (a && b)
-and-no a b h = rw h
-
-pub and-yes : (a b : Bool) → a ≡ true → b ≡ (a && b)
-and-yes a b h = rw h
-
-pub or-no : (a b : Bool) → a ≡ false → b ≡ (a || b)
-or-no a b h = rw h
-
-pub or-yes : (a b : Bool) → a ≡ true → true ≡ (a || b)
-or-yes a b h = rw h
-
 -- ---- what the layout gives
 
 pub row-few : (ws : List ℕ) (a : ℕ) → T (rowFits ws a) → ruleCount ws a ≤ 64

@@ -12,6 +12,7 @@ use Rattle.text.specs.Text.{ascii}
 use Rattle.text.specs.Tests.{is-false, all, all-append, and-l, and-r, both}
 use Rattle.names.specs.Names.{cfiName}
 use Rattle.lines.specs.Lines.{Bytes, Form, atCfaPlus, cfaPlus, Rule, rule, Line, init, later, render, nameOk, registerOk, formOk, ruleOk, lineOk}
+use Rattle.lines.specs.Lines.Laws.{render-none}
 use Rattle.lines.specs.Rules.Laws.{cfi-ok}
 use Rattle.entry.specs.declared.Judged.{Judged}
 use Rattle.entry.specs.declared.Judged.the-variants.{Refuse, Skip, Write}
@@ -184,17 +185,13 @@ pub dwarf-text : (ws : List ℕ) → T (rowsFit ws (rowCount ws) 7) → dwarfTex
 unfolding dwarfText rows nothingSeen lastSaid cfaBefore
 dwarf-text ws h = ap (render false) (rows-ran (fdeOf ws) [] noCfa nothingSeen (rows ws) refl refl (rows-once ws (rowCount ws) 7 h))
 
-nothing : [] ≡ render false []
-unfolding render
-nothing = refl
-
 pub dwarf-entry-text : (last : Last) (ws : List ℕ) → dwarfEntry last ws .text ≡ render false (dwarfLines ws)
 unfolding dwarfEntry dwarfLines
 dwarf-entry-text last ws = go (dwarfJudged ws) refl
   where
     go : (j : Judged) → dwarfJudged ws ≡ j → comesTo j (dwarfText ws) last last .text ≡ render false (ifWritten j (dwarfRows (fdeOf ws) [] (rows ws)))
-    go (Refuse n) e = nothing
-    go Skip e = nothing
+    go (Refuse n) e = render-none false
+    go Skip e = render-none false
     go Write e = dwarf-text ws (layout-rows ws (written ws e))
 
 -- ---- the lines are well formed

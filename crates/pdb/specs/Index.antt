@@ -17,13 +17,6 @@ use Rattle.pdb.specs.Pdb.{word, startOf, endOf, rangeAt, ranges, wordsFr
 use Rattle.pdb.specs.declared.Found.{Found}
 use Rattle.pdb.specs.Sorted.{step, found}
 
--- a row of tests, one after the other
-pub and-no : (a b : Bool) → a ≡ false → false ≡ (a && b)
-and-no a b h = rw h
-
-pub and-yes : (a b : Bool) → a ≡ true → b ≡ (a && b)
-and-yes a b h = rw h
-
 -- ---- one step of each
 
 pub words-step : (ws : List ℕ) (a n : ℕ) → 0 < n → wordsFrom ws a n ≡ word ws a ∷ wordsFrom ws (a + 1) (n - 1)

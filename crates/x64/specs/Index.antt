@@ -5,10 +5,10 @@ use native.Mathlib.Omega.{arith}
 use native.Mathlib.Nat.{add-assoc}
 use mathlib.Core.Bool.{Bool, true, false, cond, _&&_, _||_}
 use mathlib.Core.List.{List, [], _∷_, _++_, append-assoc}
-use borrow.Author.Tests.{le-leb, eqb-true}
+use borrow.Author.Tests.{le-leb, eqb-true, lt-ltb}
 use lib.Dec.{T, ltb, leb, eqb, ltb→lt, leb→le}
 use Rattle.lines.specs.Reach.{inside, difference-inside}
-use Rattle.text.specs.Tests.{below, and-l, and-r, both, all, all-append}
+use Rattle.text.specs.Tests.{and-l, and-r, both, all, all-append}
 use Rattle.entry.specs.declared.Judged.the-variants.{Refuse, Skip, Write}
 use Rattle.x64.specs.declared.Op.{Op}
 use Rattle.x64.specs.declared.Op.the-variants.{PushNonVolatile, Alloc, SaveRsp, SaveFp, SetFpRegister, PushMachineFrame, Other, Undecodable}
@@ -113,19 +113,6 @@ unfolding undecodableInfos
 undecodable-step ws zero a h = absurd (omega arith)
 undecodable-step ws (suc m) a h = let e : suc m - 1 ≡ m = omega arith in rw e
 
--- a row of tests, one after the other
-pub and-no : (a b : Bool) → a ≡ false → false ≡ (a && b)
-and-no a b h = rw h
-
-pub and-yes : (a b : Bool) → a ≡ true → b ≡ (a && b)
-and-yes a b h = rw h
-
-pub or-yes : (a b : Bool) → a ≡ true → true ≡ (a || b)
-or-yes a b h = rw h
-
-pub or-no : (a b : Bool) → a ≡ false → b ≡ (a || b)
-or-no a b h = rw h
-
 -- ---- bounds that the layout gives
 
 pub count-small : (ws : List ℕ) (a : ℕ) → T (infoFits ws a) → word ws (a + 2) ≤ 255
@@ -186,13 +173,13 @@ offsetOk Undecodable = true
 
 places-inside : (S : ℕ) (o : Op) → S < 2 ^ 31 → T (offsetOk o) → valueOf o < 2 ^ 31 → S + growthOf o < 2 ^ 31 → all inside (printed S o) ≡ true
 unfolding printed valueOf growthOf offsetOk inside
-places-inside S (PushNonVolatile r) h w v g = rw (below (S + 8) (2 ^ 31) g)
+places-inside S (PushNonVolatile r) h w v g = rw (lt-ltb (S + 8) (2 ^ 31) g)
 places-inside S (Alloc n) h w v g = refl
 places-inside S (SaveRsp r n) h w v g = rw (difference-inside S n h v)
 places-inside S (SaveFp r n f o) h w v g = let k : o ≤ 240 = leb→le o 240 w in rw (difference-inside n o v (omega arith))
 places-inside S (SetFpRegister f o) h w v g = let k : o ≤ 240 = leb→le o 240 w in rw (difference-inside S o h (omega arith))
-places-inside S (PushMachineFrame true) h w v g = rw (below (S + 16) (2 ^ 31) (omega arith), below (S + 40) (2 ^ 31) (omega arith))
-places-inside S (PushMachineFrame false) h w v g = rw (below (S + 16) (2 ^ 31) (omega arith), below (S + 40) (2 ^ 31) (omega arith))
+places-inside S (PushMachineFrame true) h w v g = rw (lt-ltb (S + 16) (2 ^ 31) (omega arith), lt-ltb (S + 40) (2 ^ 31) (omega arith))
+places-inside S (PushMachineFrame false) h w v g = rw (lt-ltb (S + 16) (2 ^ 31) (omega arith), lt-ltb (S + 40) (2 ^ 31) (omega arith))
 places-inside S Other h w v g = refl
 places-inside S Undecodable h w v g = refl
 

@@ -4,7 +4,7 @@ use mathlib.Core.Bool.{true, false}
 use lib.Dec.{ltb}
 use borrow.Author.Tests.{lt-ltb, le-ltb}
 use Rattle.x64.specs.X64.{word, allZero, x64Skipped}
-use Rattle.x64.specs.Index.{or-yes, or-no}
+use Rattle.text.specs.Tests.{or-yes, or-no}
 use native.Mathlib.Omega.{arith}
 use borrow.Author.Needs.{needs}
 use Rattle.x64.proofs.skipped.Statement.{statement}
