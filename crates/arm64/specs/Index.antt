@@ -15,7 +15,8 @@ use Rattle.arm64.specs.declared.Op.{Op}
 use Rattle.arm64.specs.declared.Op.the-variants.{AllocStack, SaveReg, SaveRegPreindexed, SaveRegPair, SaveRegPairPreindexed, SaveLrPair, SaveNext, Other, End, Undecodable}
 use Rattle.arm64.specs.declared.Saved.{Saved}
 use Rattle.arm64.specs.declared.BreakpadEncoder.{BreakpadEncoder}
-use Rattle.arm64.specs.Arm64.{word, opOf, counting, backwards, opCount, ops, width, above, startEncoder, began, grown, single, double, remembered, stepped, savedFits, fits, valueOf, inReach, opFits, opsFit, armLayout, undecodable, armJudged}
+use Rattle.entry.specs.Entry.{word}
+use Rattle.arm64.specs.Arm64.{opOf, counting, backwards, opCount, ops, width, above, startEncoder, began, grown, single, double, remembered, stepped, savedFits, fits, valueOf, inReach, opFits, opsFit, armLayout, undecodable, armJudged}
 
 -- the operation whose words start at i
 unfoldable pub opAt : List ℕ → ℕ → Op

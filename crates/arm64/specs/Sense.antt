@@ -16,12 +16,12 @@ use Rattle.lines.specs.Rules.Laws.{arm64-ok}
 use Rattle.entry.specs.declared.Judged.{Judged}
 use Rattle.entry.specs.declared.Judged.the-variants.{Refuse, Skip, Write}
 use Rattle.entry.specs.declared.Last.{Last}
-use Rattle.entry.specs.Entry.{comesTo, ifWritten}
+use Rattle.entry.specs.Entry.{comesTo, ifWritten, word}
 use Rattle.arm64.specs.declared.Op.{Op}
 use Rattle.arm64.specs.declared.Op.the-variants.{AllocStack, SaveReg, SaveRegPreindexed, SaveRegPair, SaveRegPairPreindexed, SaveLrPair, SaveNext, Other, End, Undecodable}
 use Rattle.arm64.specs.declared.Saved.{Saved}
 use Rattle.arm64.specs.declared.BreakpadEncoder.{BreakpadEncoder}
-use Rattle.arm64.specs.Arm64.{word, ops, above, saved, startEncoder, began, grown, single, double, remembered, stepped, savedRule, cfaRule, raRule, given, armRules, lacks, defaults, armLine, run, armText, armJudged, armEntry}
+use Rattle.arm64.specs.Arm64.{ops, above, saved, startEncoder, began, grown, single, double, remembered, stepped, savedRule, cfaRule, raRule, given, armRules, lacks, defaults, armLine, run, armText, armJudged, armEntry}
 
 -- what an operation lets the stack grow by
 unfoldable pub addedBy : Op → ℕ

@@ -10,7 +10,8 @@ use borrow.Author.Tests.{le-leb}
 use Rattle.text.specs.Tests.{and-l, and-r}
 use Rattle.entry.specs.declared.Judged.the-variants.{Refuse, Skip, Write}
 use Rattle.dwarf.specs.declared.RegisterRule.{RegisterRule}
-use Rattle.dwarf.specs.Dwarf.{word, ruleAt, rulesFrom, ruleCount, nextRow, rowAt, rowsFrom, rowCount, rows, wide, firstStart, registers, member, distinct, ruleFits, rulesFit, cfaFits, rowFits, rowsFit, rulesOf, headFits, dwarfLayout, dwarfSkipped, dwarfReach, dwarfJudged, Seen, seen, remember, seenAfter, nothingSeen}
+use Rattle.entry.specs.Entry.{word}
+use Rattle.dwarf.specs.Dwarf.{ruleAt, rulesFrom, ruleCount, nextRow, rowAt, rowsFrom, rowCount, rows, wide, firstStart, registers, member, distinct, ruleFits, rulesFit, cfaFits, rowFits, rowsFit, rulesOf, headFits, dwarfLayout, dwarfSkipped, dwarfReach, dwarfJudged, Seen, seen, remember, seenAfter, nothingSeen}
 use Rattle.dwarf.specs.Cache.{newly, fresh}
 
 -- ---- steps

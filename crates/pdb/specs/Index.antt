@@ -13,7 +13,8 @@ use Rattle.lines.specs.declared.StackInfo.{StackInfo}
 use Rattle.entry.specs.declared.Judged.the-variants.{Refuse, Skip, Write}
 use Rattle.entry.specs.declared.Last.{Last}
 use Rattle.pdb.specs.declared.Range.{Range}
-use Rattle.pdb.specs.Pdb.{word, startOf, endOf, rangeAt, ranges, wordsFrom, prologs, codes, program, sizesFit, flagsFit, hasProgram, lengthFits, countsFit, rangeFits, apart, differ, rangesFit, printable, restFits, pdbLayout, pdbSkipped, inReach, lead, trim, infoText, infosText, contiguous, pdbJudged}
+use Rattle.entry.specs.Entry.{word}
+use Rattle.pdb.specs.Pdb.{startOf, endOf, rangeAt, ranges, wordsFrom, prologs, codes, program, sizesFit, flagsFit, hasProgram, lengthFits, countsFit, rangeFits, apart, differ, rangesFit, printable, restFits, pdbLayout, pdbSkipped, inReach, lead, trim, infoText, infosText, contiguous, pdbJudged}
 use Rattle.pdb.specs.declared.Found.{Found}
 use Rattle.pdb.specs.Sorted.{step, found}
 

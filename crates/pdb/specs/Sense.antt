@@ -16,8 +16,8 @@ use Rattle.lines.specs.Lines.Laws.{render-none}
 use Rattle.entry.specs.declared.Judged.{Judged}
 use Rattle.entry.specs.declared.Judged.the-variants.{Refuse, Skip, Write}
 use Rattle.entry.specs.declared.Last.{Last}
-use Rattle.entry.specs.Entry.{comesTo, ifWritten}
-use Rattle.pdb.specs.Pdb.{word, program, printable, hasProgram, pdbLayout, leaves, trim, tailText, infoText, infosText, stackInfos, pdbText, pdbJudged, pdbEntry}
+use Rattle.entry.specs.Entry.{comesTo, ifWritten, word}
+use Rattle.pdb.specs.Pdb.{program, printable, hasProgram, pdbLayout, leaves, trim, tailText, infoText, infosText, stackInfos, pdbText, pdbJudged, pdbEntry}
 use Rattle.pdb.specs.Index.{layout-program, trim-all, written}
 
 unfoldable pub winLine : List ℕ → StackInfo → Line

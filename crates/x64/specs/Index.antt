@@ -12,7 +12,8 @@ use Rattle.text.specs.Tests.{and-l, and-r, both, all, all-append}
 use Rattle.entry.specs.declared.Judged.the-variants.{Refuse, Skip, Write}
 use Rattle.x64.specs.declared.Op.{Op}
 use Rattle.x64.specs.declared.Op.the-variants.{PushNonVolatile, Alloc, SaveRsp, SaveFp, SetFpRegister, PushMachineFrame, Other, Undecodable}
-use Rattle.x64.specs.X64.{word, opOf, stored, infos, backwards, inOrder, infoCount, chain, growthOf, valueOf, run, total, opFits, opsFit, infoFits, infosFit, x64Layout, undecodableOps, undecodableInfos, printed, inReach, setCount, x64Reach, x64Skipped, x64Judged}
+use Rattle.entry.specs.Entry.{word}
+use Rattle.x64.specs.X64.{opOf, stored, infos, backwards, inOrder, infoCount, chain, growthOf, valueOf, run, opFits, opsFit, infoFits, infosFit, x64Layout, undecodableOps, undecodableInfos, printed, inReach, setCount, x64Reach, x64Skipped, x64Judged}
 
 -- ---- operations
 
@@ -65,11 +66,6 @@ chain-run ws = infos-run ws (infoCount ws) 4
 unfoldable pub growths : List Op → ℕ
 growths [] = 0
 growths (o ∷ os) = growthOf o + growths os
-
-pub total-sum : (S : ℕ) (os : List Op) → total S os ≡ S + growths os
-unfolding total growths
-total-sum S [] = omega arith
-total-sum S (o ∷ os) = rw (total-sum (S + growthOf o) os) (omega arith)
 
 -- the value that an operation uses and the total after it are below 2^31: what the code tests for refusal 6
 abbrev pub within : ℕ → Op → Bool

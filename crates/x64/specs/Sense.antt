@@ -20,10 +20,10 @@ use Rattle.lines.specs.Rules.Laws.{pe-ok}
 use Rattle.entry.specs.declared.Judged.{Judged}
 use Rattle.entry.specs.declared.Judged.the-variants.{Refuse, Skip, Write}
 use Rattle.entry.specs.declared.Last.{Last}
-use Rattle.entry.specs.Entry.{comesTo, ifWritten}
+use Rattle.entry.specs.Entry.{comesTo, ifWritten, word}
 use Rattle.x64.specs.declared.Op.{Op}
 use Rattle.x64.specs.declared.Op.the-variants.{PushNonVolatile, Alloc, SaveRsp, SaveFp, SetFpRegister, PushMachineFrame, Other, Undecodable}
-use Rattle.x64.specs.X64.{word, chain, growthOf, run, total, machineRules, opRules, opCfa, cfaForm, isMachine, anyMachine, raRules, ranRules, x64Text, isSet, setCount, x64Judged, x64Entry}
+use Rattle.x64.specs.X64.{chain, growthOf, run, total, machineRules, opRules, opCfa, cfaForm, isMachine, anyMachine, raRules, ranRules, x64Text, isSet, setCount, x64Judged, x64Entry}
 
 -- 8 a push, an allocation's value, 40 a machine frame and 8 its error code
 unfoldable pub addedBy : Op → ℕ

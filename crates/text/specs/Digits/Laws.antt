@@ -93,9 +93,6 @@ read-decimal n = value-digits 10 n (omega arith) (omega arith)
 
 -- ---- injective
 
-pub digits-injective : (b m n : ℕ) → 1 < b → b ≤ 16 → digits b m ≡ digits b n → m ≡ n
-digits-injective b m n h k e = sym (value-digits b m h k) ∙ ap (value b 0) e ∙ value-digits b n h k
-
 pub hex-injective : (m n : ℕ) → hex m ≡ hex n → m ≡ n
 hex-injective m n e = sym (read-hex m) ∙ ap readHex e ∙ read-hex n
 
@@ -132,18 +129,6 @@ hex-digits n = hex-all isHex n tt
 pub decimal-digits : (n : ℕ) → T (all isDecimal (decimal n))
 unfolding digit
 decimal-digits n = decimal-all isDecimal n tt
-
--- neither ' ' nor ':' nor '-' nor '\n'
-abbrev pub plain : ℕ → Bool
-plain c = not (eqb c 32) && not (eqb c 58) && not (eqb c 45) && not (eqb c 10)
-
-pub hex-plain : (n : ℕ) → T (all plain (hex n))
-unfolding digit
-hex-plain n = hex-all plain n tt
-
-pub decimal-plain : (n : ℕ) → T (all plain (decimal n))
-unfolding digit
-decimal-plain n = decimal-all plain n tt
 
 -- ---- at least one, and few
 

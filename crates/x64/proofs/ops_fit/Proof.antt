@@ -2,7 +2,8 @@
 use Prim.Native.Nat.{_+_, _*_}
 use mathlib.Core.Path.{_≡_, refl, sym, _∙_}
 use borrow.Author.Tests.{not-true, not-false}
-use Rattle.x64.specs.X64.{word, opFits, opsFit}
+use Rattle.entry.specs.Entry.{word}
+use Rattle.x64.specs.X64.{opFits, opsFit}
 use Rattle.text.specs.Tests.{and-no, and-yes}
 use Rattle.x64.specs.Index.{ops-fit-step}
 use borrow.Author.Needs.{needs}
