@@ -8,7 +8,7 @@ use native.Mathlib.Decide.{decLe, decLt}
 use borrow.Author.Tests.{le-leb, lt-leb, lt-ltb, le-ltb}
 use lib.IntN.{subℕ}
 use lib.Dec.{T, ltb, leb, eqb, ltb→lt, leb→le}
-use Rattle.text.specs.Tests.{and-l, and-r}
+use Rattle.text.specs.Tests.{and-l, and-r, one-less}
 use Rattle.lines.specs.Reach.{inside}
 use Rattle.entry.specs.declared.Judged.the-variants.{Refuse, Skip, Write}
 use Rattle.arm64.specs.declared.Op.{Op}
@@ -69,18 +69,15 @@ first-end-few ws a (suc n) = go (eqb (word ws a) 9) (first-end-few ws (a + 4) n)
 
 pub ops-step : (ws : List ℕ) (a n : ℕ) → 0 < n → opsRun ws a n ≡ opAt ws (a + 4 * (n - 1)) ∷ opsRun ws a (n - 1)
 unfolding opsRun
-ops-step ws a zero h = absurd (omega arith)
-ops-step ws a (suc n) h = let e : suc n - 1 ≡ n = omega arith in rw e
+ops-step ws a n h = ap (opsRun ws a) (one-less n h)
 
 pub ops-fit-step : (ws : List ℕ) (a n : ℕ) → 0 < n → opsFit ws a n ≡ (opFits (word ws a) (word ws (a + 2)) && opsFit ws (a + 4) (n - 1))
 unfolding opsFit
-ops-fit-step ws a zero h = absurd (omega arith)
-ops-fit-step ws a (suc n) h = let e : suc n - 1 ≡ n = omega arith in rw e
+ops-fit-step ws a n h = ap (opsFit ws a) (one-less n h)
 
 pub undecodable-step : (ws : List ℕ) (a n : ℕ) → 0 < n → undecodable ws a n ≡ cond (eqb (word ws a) 9) false (eqb (word ws a) 10 || undecodable ws (a + 4) (n - 1))
 unfolding undecodable
-undecodable-step ws a zero h = absurd (omega arith)
-undecodable-step ws a (suc n) h = let e : suc n - 1 ≡ n = omega arith in rw e
+undecodable-step ws a n h = ap (undecodable ws a) (one-less n h)
 
 pub first-end-step : (ws : List ℕ) (i n : ℕ) → i < n
     → firstEnd ws (3 + 4 * i) (n - i) ≡ cond (eqb (word ws (3 + 4 * i)) 9) 0 (suc (firstEnd ws (3 + 4 * (i + 1)) (n - (i + 1))))
