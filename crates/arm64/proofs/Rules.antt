@@ -1,28 +1,19 @@
 -- Rules as the writers put them, and the texts of the definitions.
 use mathlib.Core.Path.{_≡_, refl, sym, ap, _∙_}
 use Prim.Native.Nat.{ℕ, zero, suc, _+_, _*_, _-_}
-use native.Mathlib.Omega.{arith}
 use mathlib.Core.Bool.{Bool, true, false, not, cond, _&&_}
-use mathlib.Core.List.{List, [], _∷_, _++_, append-nil, append-assoc}
-use lib.IntN.{pos, subℕ}
+use mathlib.Core.List.{List, [], _∷_, _++_, append-assoc}
 use lib.Dec.{eqb}
 use Rattle.text.specs.Text.{ascii, Put}
 use Rattle.text.specs.Text.Laws.{put-as, _⨾_}
-use Rattle.text.specs.Tests.{above as above′, is-false, eqw, and-r}
+use Rattle.text.specs.Tests.{is-false, eqw, and-r}
 use Rattle.text.specs.Digits.{decimal}
 use Rattle.names.specs.Names.{arm64Name, letterOf}
-use Rattle.lines.specs.Lines.{Bytes, Rule, rule, cfa, register, init, later, ruleText, rulesText, initText, lineText, nameOk}
+use Rattle.lines.specs.Lines.{Bytes, Rule, rule, cfa, register, init, later, rulesText, initText, lineText, nameOk}
 use Rattle.lines.specs.Lines.Laws.{rules-append}
 use Rattle.lines.specs.Rules.Laws.{arm64-ok}
 use Rattle.arm64.specs.declared.BreakpadEncoder.{BreakpadEncoder}
 use Rattle.arm64.specs.Arm64.{savedRule, cfaRule, raRule, given, armRules, lacks, defaults, armLine}
-
-pub sub-none : (a : ℕ) → subℕ a 0 ≡ pos a
-sub-none a = let e : a - 0 ≡ a = omega arith in rw (above′ a 0 (omega arith), e)
-
-pub put-one : {d d′ : List ℕ} {at r : ℕ} (q : Rule) → Put d at (ruleText q) d′ r → Put d at (rulesText (q ∷ [])) d′ r
-unfolding rulesText
-put-one q p = put-as p (sym (append-nil (ruleText q)))
 
 pub put-four : {d d₁ d₂ d₃ d₄ : List ℕ} {at r₁ r₂ r₃ r₄ : ℕ} (a b c e : List Rule)
     → Put d at (rulesText a) d₁ r₁ → Put d₁ r₁ (rulesText b) d₂ r₂ → Put d₂ r₂ (rulesText c) d₃ r₃ → Put d₃ r₃ (rulesText e) d₄ r₄

@@ -3,7 +3,7 @@
 use Prim.Native.Nat.{ℕ, zero, suc, _+_, _*_, _^_}
 use mathlib.Core.Bool.{Bool, true, false, not, cond, _&&_, _||_}
 use mathlib.Core.List.{List, [], _∷_, _++_}
-use lib.ListN.{length, getD}
+use lib.ListN.{length}
 use lib.IntN.{pos, subℕ}
 use lib.Dec.{ltb, leb, eqb}
 use Rattle.text.specs.Text.{ascii}
@@ -14,16 +14,13 @@ use Rattle.lines.specs.Reach.{inside}
 use Rattle.entry.specs.declared.Judged.{Judged}
 use Rattle.entry.specs.declared.Judged.the-variants.{Refuse, Skip, Write}
 use Rattle.entry.specs.declared.Last.{Last}
-use Rattle.entry.specs.Entry.{Entry, comesTo}
+use Rattle.entry.specs.Entry.{Entry, comesTo, word}
 use Rattle.arm64.specs.declared.Op.{Op}
 use Rattle.arm64.specs.declared.Op.the-variants.{AllocStack, SaveReg, SaveRegPreindexed, SaveRegPair, SaveRegPairPreindexed, SaveLrPair, SaveNext, Other, End, Undecodable}
 use Rattle.arm64.specs.declared.Saved.{Saved}
 use Rattle.arm64.specs.declared.BreakpadEncoder.{BreakpadEncoder}
 
 -- ---- operations from words
-
-abbrev pub word : List ℕ → ℕ → ℕ
-word ws i = getD ws i 0
 
 unfoldable pub opOf : ℕ → ℕ → ℕ → ℕ → Op
 opOf k l r v =

@@ -11,16 +11,17 @@ use Rattle.text.specs.Text.{ascii}
 use Rattle.text.specs.Tests.{all, all-append, and-l, both}
 use Rattle.names.specs.Names.{arm64Name}
 use Rattle.lines.specs.Lines.{Rule, rule, register, cfa, Line, render, nameOk, ruleOk, lineOk}
+use Rattle.lines.specs.Lines.Laws.{render-none}
 use Rattle.lines.specs.Rules.Laws.{arm64-ok}
 use Rattle.entry.specs.declared.Judged.{Judged}
 use Rattle.entry.specs.declared.Judged.the-variants.{Refuse, Skip, Write}
 use Rattle.entry.specs.declared.Last.{Last}
-use Rattle.entry.specs.Entry.{comesTo, ifWritten}
+use Rattle.entry.specs.Entry.{comesTo, ifWritten, word}
 use Rattle.arm64.specs.declared.Op.{Op}
 use Rattle.arm64.specs.declared.Op.the-variants.{AllocStack, SaveReg, SaveRegPreindexed, SaveRegPair, SaveRegPairPreindexed, SaveLrPair, SaveNext, Other, End, Undecodable}
 use Rattle.arm64.specs.declared.Saved.{Saved}
 use Rattle.arm64.specs.declared.BreakpadEncoder.{BreakpadEncoder}
-use Rattle.arm64.specs.Arm64.{word, ops, above, saved, startEncoder, began, grown, single, double, remembered, stepped, savedRule, cfaRule, raRule, given, armRules, lacks, defaults, armLine, run, armText, armJudged, armEntry}
+use Rattle.arm64.specs.Arm64.{ops, above, saved, startEncoder, began, grown, single, double, remembered, stepped, savedRule, cfaRule, raRule, given, armRules, lacks, defaults, armLine, run, armText, armJudged, armEntry}
 
 -- what an operation lets the stack grow by
 unfoldable pub addedBy : Op → ℕ
@@ -120,17 +121,13 @@ unfolding run linesFrom
 run-lines a z e ds [] k = refl
 run-lines a z e ds (o ∷ os) k = rw (step-rules e ds o k, run-lines a z (stepped e o) (o ∷ ds) os (kept-step e ds o k))
 
-nothing : [] ≡ render true []
-unfolding render
-nothing = refl
-
 pub arm-entry-text : (last : Last) (ws : List ℕ) → armEntry last ws .text ≡ render true (armLines ws)
 unfolding armEntry armLines armText
 arm-entry-text last ws = go (armJudged ws)
   where
     go : (j : Judged) → comesTo j (render true (run (word ws 0) (word ws 1) 0 startEncoder (ops ws))) last last .text ≡ render true (ifWritten j (linesFrom (word ws 0) (word ws 1) [] (ops ws)))
-    go (Refuse n) = nothing
-    go Skip = nothing
+    go (Refuse n) = render-none true
+    go Skip = render-none true
     go Write = ap (render true) (run-lines (word ws 0) (word ws 1) startEncoder [] (ops ws) kept-start)
 
 -- ---- every line is well formed

@@ -6,6 +6,8 @@
 use entry::Judged;
 use entry::Last;
 use entry::Wrote;
+use entry::both;
+use entry::word;
 use lines::Form;
 use lines::Name;
 use lines::Reg;
@@ -16,7 +18,7 @@ use lines::put_later;
 use lines::put_rule;
 use text::put_byte;
 ghost use mathlib.Core.Path.{_≡_};
-ghost use mathlib.Core.Bool.{true, not, _&&_};
+ghost use mathlib.Core.Bool.{true, not};
 ghost use Prim.Native.Nat.{_+_, _^_, _<_, _≤_};
 ghost use lib.ListN.{getD};
 ghost use lib.IntN.{subℕ};
@@ -83,25 +85,6 @@ const LR: u64 = 30;
 const REACH: u64 = 0x8000_0000;
 
 const ADDRESSES: u64 = 0x1_0000_0000;
-
-fn both(a: bool, b: bool) -> bool
-    ensures { λ r. ⌜ r ≡ (a && b) ⌝ }
-{
-    if a {
-        return b;
-    }
-    false
-}
-
-// The word at i, and 0 past the end.
-fn word(body: &[u32], i: usize) -> u32
-    ensures { λ r. ⌜ r ≡ getD (now (body .entry)) i 0 ⌝ }
-{
-    if i < body.len() {
-        return body[i];
-    }
-    0
-}
 
 fn op_of(kind: u32, letter: u32, register: u32, value: u32) -> Op
     ensures { λ r. ⌜ r ≡ opOf kind letter register value ⌝ }

@@ -1,8 +1,9 @@
 // The contents of a book: whether it keeps their rules (refusal 3), and where each body lies.
 // Words: kind, count n, n pairs of a body's first word and its length, then the bodies without gaps.
+use entry::word;
 ghost use mathlib.Core.Path.{_≡_};
 ghost use Prim.Native.Nat.{_^_, _≤_, _<_};
-ghost use lib.ListN.{length, getD};
+ghost use lib.ListN.{length};
 ghost use Rattle.book.specs.Book.{kind, count, startOf, sizeOf, firstBody, headerOk, bodiesOk, contentsOk};
 
 // The kinds: 1 to this one.
@@ -12,35 +13,16 @@ const MOST_BODIES: usize = 1024;
 
 const MOST_WORDS: usize = 16384;
 
-fn wide(x: u32) -> usize
-    ensures { λ r. ⌜ r ≡ x ⌝ }
-{
-    x as usize
-}
-
-// The word at i, and 0 past the end.
-fn word(book: &[u32], i: usize) -> usize
-    ensures { λ r. ⌜ r ≡ getD (now (book .entry)) i 0 ⌝ }
-{
-    if i < book.len() {
-        return wide(book[i]);
-    }
-    0
-}
-
 pub fn kind_of(book: &[u32]) -> u32
     ensures { λ r. ⌜ r ≡ kind (now (book .entry)) ⌝ }
 {
-    if 0 < book.len() {
-        return book[0];
-    }
-    0
+    word(book, 0)
 }
 
 pub fn count_of(book: &[u32]) -> usize
     ensures { λ r. ⌜ r ≡ count (now (book .entry)) ⌝ }
 {
-    word(book, 1)
+    word(book, 1) as usize
 }
 
 // Where body i starts.
@@ -48,7 +30,7 @@ pub fn start_of(book: &[u32], i: usize) -> usize
     requires { ⌜ i < 2 ^ 32 ⌝ }
     ensures { λ r. ⌜ r ≡ startOf (now (book .entry)) i ⌝ }
 {
-    word(book, 2 + 2 * i)
+    word(book, 2 + 2 * i) as usize
 }
 
 // How many words body i has.
@@ -56,7 +38,7 @@ pub fn size_of(book: &[u32], i: usize) -> usize
     requires { ⌜ i < 2 ^ 32 ⌝ }
     ensures { λ r. ⌜ r ≡ sizeOf (now (book .entry)) i ⌝ }
 {
-    word(book, 3 + 2 * i)
+    word(book, 3 + 2 * i) as usize
 }
 
 // The kind, the count and the room for the contents pairs.

@@ -17,7 +17,8 @@ use Rattle.dwarf.specs.declared.RuleCache.{RuleCache}
 use Rattle.dwarf.specs.declared.Met.{Met}
 use Rattle.dwarf.specs.declared.RowState.{RowState}
 use Rattle.dwarf.specs.declared.Fde.{Fde}
-use Rattle.dwarf.specs.Dwarf.{word, wide, ruleAt, rulesFrom, ruleCount, nextRow, rowAt, rowsFrom, rowCount, rows, lastEnd, anyBelow, registers, distinct, rulesOf, member, once, rowFits, rowsFit, dwarfLayout, Seen, differs, remember, ruleRules, seenAfter, ranRules, ranMoved, ranRow, ranRows, CfaSeen, noCfa, lastCfa, nothingSeen}
+use Rattle.entry.specs.Entry.{word}
+use Rattle.dwarf.specs.Dwarf.{wide, ruleAt, rulesFrom, ruleCount, nextRow, rowAt, rowsFrom, rowCount, rows, lastEnd, anyBelow, registers, distinct, rulesOf, member, once, rowFits, rowsFit, dwarfLayout, Seen, differs, remember, ruleRules, seenAfter, ranRules, ranMoved, ranRow, ranRows, CfaSeen, noCfa, lastCfa, nothingSeen}
 use Rattle.dwarf.proofs.Store.{newly-few}
 use Rattle.dwarf.specs.Cache.{placeOf, lookup, newly, fresh, any, cfaOf, Known, Scanned, After}
 use Rattle.dwarf.specs.Index.{rules-step, rows-step, rows-fit-step, row-few, row-bound, layout-few, layout-rows, layout-distinct, fresh-append, fresh-distinct}

@@ -3,7 +3,7 @@
 use Prim.Native.Nat.{ℕ, zero, suc, _+_, _-_, _*_, _^_}
 use mathlib.Core.Bool.{Bool, true, false, not, cond, _&&_, _||_}
 use mathlib.Core.List.{List, [], _∷_, _++_}
-use lib.ListN.{length, getD}
+use lib.ListN.{length}
 use lib.IntN.{ℤ, pos, negsuc}
 use lib.Dec.{ltb, leb, eqb}
 use Rattle.text.specs.Text.{ascii}
@@ -12,15 +12,12 @@ use Rattle.lines.specs.Lines.{Bytes, Form, register, registerPlus, cfaPlus, atC
 use Rattle.entry.specs.declared.Last.{Last}
 use Rattle.entry.specs.declared.Judged.{Judged}
 use Rattle.entry.specs.declared.Judged.the-variants.{Refuse, Skip, Write}
-use Rattle.entry.specs.Entry.{Entry, comesTo}
+use Rattle.entry.specs.Entry.{Entry, comesTo, word}
 use Rattle.dwarf.specs.declared.RegisterRule.{RegisterRule}
 use Rattle.dwarf.specs.declared.CfaRule.{CfaRule}
 use Rattle.dwarf.specs.declared.Fde.{Fde}
 
 -- ---- rows from words
-
-abbrev pub word : List ℕ → ℕ → ℕ
-word ws i = getD ws i 0
 
 -- two words, the low one first
 unfoldable pub wide : List ℕ → ℕ → ℕ

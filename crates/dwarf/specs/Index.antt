@@ -7,47 +7,30 @@ use mathlib.Core.List.{List, [], _∷_, _++_}
 use lib.ListN.{length, length-append}
 use lib.Dec.{T, ltb, leb, eqb, leb→le, eqb→eq}
 use borrow.Author.Tests.{le-leb}
-use Rattle.text.specs.Tests.{and-l, and-r}
+use Rattle.text.specs.Tests.{and-l, and-r, one-less}
 use Rattle.entry.specs.declared.Judged.the-variants.{Refuse, Skip, Write}
 use Rattle.dwarf.specs.declared.RegisterRule.{RegisterRule}
-use Rattle.dwarf.specs.Dwarf.{word, ruleAt, rulesFrom, ruleCount, nextRow, rowAt, rowsFrom, rowCount, rows, wide, firstStart, registers, member, distinct, ruleFits, rulesFit, cfaFits, rowFits, rowsFit, rulesOf, headFits, dwarfLayout, dwarfSkipped, dwarfReach, dwarfJudged, Seen, seen, remember, seenAfter, nothingSeen}
+use Rattle.entry.specs.Entry.{word}
+use Rattle.dwarf.specs.Dwarf.{ruleAt, rulesFrom, ruleCount, nextRow, rowAt, rowsFrom, rowCount, rows, wide, firstStart, registers, member, distinct, ruleFits, rulesFit, cfaFits, rowFits, rowsFit, rulesOf, headFits, dwarfLayout, dwarfSkipped, dwarfReach, dwarfJudged, Seen, seen, remember, seenAfter, nothingSeen}
 use Rattle.dwarf.specs.Cache.{newly, fresh}
 
 -- ---- steps
 
 pub rules-step : (ws : List ℕ) (n a : ℕ) → 0 < n → rulesFrom ws n a ≡ ruleAt ws a ∷ rulesFrom ws (n - 1) (a + 4)
 unfolding rulesFrom
-rules-step ws zero a h = absurd (omega arith)
-rules-step ws (suc n) a h = let e : suc n - 1 ≡ n = omega arith in rw e
+rules-step ws n a h = ap (λ (k : ℕ). rulesFrom ws k a) (one-less n h)
 
 pub rows-step : (ws : List ℕ) (m a : ℕ) → 0 < m → rowsFrom ws m a ≡ rowAt ws a ∷ rowsFrom ws (m - 1) (nextRow ws a)
 unfolding rowsFrom
-rows-step ws zero a h = absurd (omega arith)
-rows-step ws (suc m) a h = let e : suc m - 1 ≡ m = omega arith in rw e
+rows-step ws m a h = ap (λ (k : ℕ). rowsFrom ws k a) (one-less m h)
 
 pub rules-fit-step : (ws : List ℕ) (n a : ℕ) → 0 < n → rulesFit ws n a ≡ ruleFits ws a && rulesFit ws (n - 1) (a + 4)
 unfolding rulesFit
-rules-fit-step ws zero a h = absurd (omega arith)
-rules-fit-step ws (suc n) a h = let e : suc n - 1 ≡ n = omega arith in rw e
+rules-fit-step ws n a h = ap (λ (k : ℕ). rulesFit ws k a) (one-less n h)
 
 pub rows-fit-step : (ws : List ℕ) (m a : ℕ) → 0 < m → rowsFit ws m a ≡ rowFits ws a && rowsFit ws (m - 1) (nextRow ws a)
 unfolding rowsFit
-rows-fit-step ws zero a h = absurd (omega arith)
-rows-fit-step ws (suc m) a h = let e : suc m - 1 ≡ m = omega arith in rw e
-
--- ---- tests
-
-pub and-no : (a b : Bool) → a ≡ false → false ≡ (a && b)
-and-no a b h = rw h
-
-pub and-yes : (a b : Bool) → a ≡ true → b ≡ (a && b)
-and-yes a b h = rw h
-
-pub or-no : (a b : Bool) → a ≡ false → b ≡ (a || b)
-or-no a b h = rw h
-
-pub or-yes : (a b : Bool) → a ≡ true → true ≡ (a || b)
-or-yes a b h = rw h
+rows-fit-step ws m a h = ap (λ (k : ℕ). rowsFit ws k a) (one-less m h)
 
 -- ---- what the layout gives
 

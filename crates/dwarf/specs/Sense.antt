@@ -9,9 +9,10 @@ use lib.IntN.{ℤ}
 use lib.Dec.{T, eqb, leb}
 use borrow.Author.Tests.{ne-eqb, eqb-false}
 use Rattle.text.specs.Text.{ascii}
-use Rattle.text.specs.Tests.{is-false, all, all-append, and-l, and-r, both}
+use Rattle.text.specs.Tests.{is-false, all, all-append, and-l, and-r, both, either}
 use Rattle.names.specs.Names.{cfiName}
 use Rattle.lines.specs.Lines.{Bytes, Form, atCfaPlus, cfaPlus, Rule, rule, Line, init, later, render, nameOk, registerOk, formOk, ruleOk, lineOk}
+use Rattle.lines.specs.Lines.Laws.{render-none}
 use Rattle.lines.specs.Rules.Laws.{cfi-ok}
 use Rattle.entry.specs.declared.Judged.{Judged}
 use Rattle.entry.specs.declared.Judged.the-variants.{Refuse, Skip, Write}
@@ -184,31 +185,19 @@ pub dwarf-text : (ws : List ℕ) → T (rowsFit ws (rowCount ws) 7) → dwarfTex
 unfolding dwarfText rows nothingSeen lastSaid cfaBefore
 dwarf-text ws h = ap (render false) (rows-ran (fdeOf ws) [] noCfa nothingSeen (rows ws) refl refl (rows-once ws (rowCount ws) 7 h))
 
-nothing : [] ≡ render false []
-unfolding render
-nothing = refl
-
 pub dwarf-entry-text : (last : Last) (ws : List ℕ) → dwarfEntry last ws .text ≡ render false (dwarfLines ws)
 unfolding dwarfEntry dwarfLines
 dwarf-entry-text last ws = go (dwarfJudged ws) refl
   where
     go : (j : Judged) → dwarfJudged ws ≡ j → comesTo j (dwarfText ws) last last .text ≡ render false (ifWritten j (dwarfRows (fdeOf ws) [] (rows ws)))
-    go (Refuse n) e = nothing
-    go Skip e = nothing
+    go (Refuse n) e = render-none false
+    go Skip e = render-none false
     go Write e = dwarf-text ws (layout-rows ws (written ws e))
 
 -- ---- the lines are well formed
 
 name-ok : (f r : ℕ) → T (nameOk (cfiName f r))
 name-ok f r = and-l (nameOk (cfiName f r)) _ (cfi-ok f r)
-
-either-rules : (t : Bool) (rs qs : List Rule) → T (all ruleOk rs) → T (all ruleOk qs) → T (all ruleOk (cond t rs qs))
-either-rules true rs qs h k = h
-either-rules false rs qs h k = k
-
-either-forms : (t : Bool) (fs gs : List Form) → T (all formOk fs) → T (all formOk gs) → T (all formOk (cond t fs gs))
-either-forms true fs gs h k = h
-either-forms false fs gs h k = k
 
 name-form-ok : (n : Bytes) → T (registerOk n) → T (all formOk (nameForm n))
 unfolding nameForm
@@ -218,10 +207,11 @@ name-form-ok (c ∷ n) h = both (registerOk (c ∷ n)) true h tt
 forms-ok : (f : ℕ) (x : RegisterRule) → T (all formOk (ruleForms f x))
 unfolding ruleForms
 forms-ok f x =
-    either-forms (eqb (x .kind) 0) (nameForm (cfiName f (x .register))) _ (name-form-ok _ (cfi-ok f (x .register)))
-    (either-forms (eqb (x .kind) 1) (atCfaPlus (twos (x .value)) ∷ []) _ tt
-    (either-forms (eqb (x .kind) 2) (cfaPlus (twos (x .value)) ∷ []) _ tt
-    (either-forms (eqb (x .kind) 3) (nameForm (cfiName f (x .value))) [] (name-form-ok _ (cfi-ok f (x .value))) tt)))
+    let by = either (all formOk) in
+    by (eqb (x .kind) 0) (nameForm (cfiName f (x .register))) _ (name-form-ok _ (cfi-ok f (x .register)))
+    (by (eqb (x .kind) 1) (atCfaPlus (twos (x .value)) ∷ []) _ tt
+    (by (eqb (x .kind) 2) (cfaPlus (twos (x .value)) ∷ []) _ tt
+    (by (eqb (x .kind) 3) (nameForm (cfiName f (x .value))) [] (name-form-ok _ (cfi-ok f (x .value))) tt)))
 
 named-ok : (n : Bytes) (fs : List Form) → T (nameOk n) → T (all formOk fs) → T (all ruleOk (named n fs))
 unfolding named
@@ -241,7 +231,7 @@ new-ok : (f ra : ℕ) (said : ℕ → Seen) (xs : List RegisterRule) → T (all 
 unfolding newRules
 new-ok f ra said [] = tt
 new-ok f ra said (x ∷ xs) = all-append ruleOk (cond (differs (said (x .register)) (x .kind) (x .value)) (ruleRules f ra x) []) _
-    (either-rules (differs (said (x .register)) (x .kind) (x .value)) (ruleRules f ra x) [] (rule-ok f ra x) tt) (new-ok f ra said xs)
+    (either (all ruleOk) (differs (said (x .register)) (x .kind) (x .value)) (ruleRules f ra x) [] (rule-ok f ra x) tt) (new-ok f ra said xs)
 
 plus-ok : (n : Bytes) (z : ℤ) → T (registerOk n) → T (all ruleOk (cfaPlusRules n z))
 unfolding cfaPlusRules
@@ -250,15 +240,15 @@ plus-ok (c ∷ n) z h = both (registerOk (c ∷ n)) true h tt
 
 cfa-ok : (f : ℕ) (x : CfaRule) → T (all ruleOk (cfaRules f x))
 unfolding cfaRules
-cfa-ok f x = either-rules (eqb (x .kind) 0) (cfaPlusRules (cfiName f (x .register)) (twos (x .offset))) [] (plus-ok _ _ (cfi-ok f (x .register))) tt
+cfa-ok f x = either (all ruleOk) (eqb (x .kind) 0) (cfaPlusRules (cfiName f (x .register)) (twos (x .offset))) [] (plus-ok _ _ (cfi-ok f (x .register))) tt
 
 ra-ok : (f ra : ℕ) → T (all ruleOk (raRules f ra))
 unfolding raRules
-ra-ok f ra = named-ok (ascii ".ra") (cond (leb 3 f && leb f 9) (nameForm (cfiName f ra)) []) tt (either-forms (leb 3 f && leb f 9) (nameForm (cfiName f ra)) [] (name-form-ok _ (cfi-ok f ra)) tt)
+ra-ok f ra = named-ok (ascii ".ra") (cond (leb 3 f && leb f 9) (nameForm (cfiName f ra)) []) tt (either (all formOk) (leb 3 f && leb f 9) (nameForm (cfiName f ra)) [] (name-form-ok _ (cfi-ok f ra)) tt)
 
 default-ok : (e : Fde) (start : ℕ) (moved : Bool) → T (all ruleOk (defaultRules e start moved))
 unfolding defaultRules
-default-ok e start moved = either-rules (eqb start (e .start) && not moved) (raRules (e .family) (e .ra)) [] (ra-ok (e .family) (e .ra)) tt
+default-ok e start moved = either (all ruleOk) (eqb start (e .start) && not moved) (raRules (e .family) (e .ra)) [] (ra-ok (e .family) (e .ra)) tt
 
 line-ok : (e : Fde) (start : ℕ) (rs : List Rule) → T (all ruleOk rs) → T (lineOk (lineOf e start rs))
 unfolding lineOf
@@ -280,7 +270,7 @@ unfolding dwarfRow
 row-ok e ds w =
     let cs : List Rule = cond (cfaDiffers (cfaBefore ds) (w .cfa)) (cfaRules (e .family) (w .cfa)) [] in
     row-line-ok e (w .start) (cs ++ newRules (e .family) (e .ra) (lastSaid ds) (w .rules)) (raDiffers (e .ra) (lastSaid ds) (w .rules))
-    (all-append ruleOk cs _ (either-rules (cfaDiffers (cfaBefore ds) (w .cfa)) (cfaRules (e .family) (w .cfa)) [] (cfa-ok (e .family) (w .cfa)) tt)
+    (all-append ruleOk cs _ (either (all ruleOk) (cfaDiffers (cfaBefore ds) (w .cfa)) (cfaRules (e .family) (w .cfa)) [] (cfa-ok (e .family) (w .cfa)) tt)
     (new-ok (e .family) (e .ra) (lastSaid ds) (w .rules)))
 
 rows-ok : (e : Fde) (ds ws : List Row) → T (all lineOk (dwarfRows e ds ws))

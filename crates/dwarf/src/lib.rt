@@ -22,6 +22,8 @@
 use entry::Judged;
 use entry::Last;
 use entry::Wrote;
+use entry::both;
+use entry::word;
 use lines::Form;
 use lines::Name;
 use lines::Reg;
@@ -32,7 +34,7 @@ use lines::put_rule;
 use names::has_cfi_name;
 use text::put_byte;
 ghost use mathlib.Core.Path.{_≡_};
-ghost use mathlib.Core.Bool.{cond, true, false, _&&_, _||_};
+ghost use mathlib.Core.Bool.{cond, true, false, _||_};
 ghost use mathlib.Core.List.{[], _++_};
 ghost use Prim.Native.Nat.{_+_, _-_, _*_, _^_, _<_, _≤_};
 ghost use lib.ListN.{getD, length, take};
@@ -89,16 +91,6 @@ pub struct Fde {
 }
 
 // ---- words
-
-// The word at i, and 0 past the end.
-fn word(body: &[u32], i: usize) -> u32
-    ensures { λ r. ⌜ r ≡ getD (now (body .entry)) i 0 ⌝ }
-{
-    if i < body.len() {
-        return body[i];
-    }
-    0
-}
 
 // Two words from i on, the low one first.
 fn word64(body: &[u32], i: usize) -> u64
@@ -186,15 +178,6 @@ fn either(a: bool, b: bool) -> bool
         return true;
     }
     b
-}
-
-fn both(a: bool, b: bool) -> bool
-    ensures { λ r. ⌜ r ≡ a && b ⌝ }
-{
-    if a {
-        return b;
-    }
-    false
 }
 
 // ---- the rules last seen

@@ -3,11 +3,16 @@ use mathlib.Core.Path.{_≡_}
 use mathlib.Core.Bool.{false}
 use mathlib.Core.List.{List, []}
 use Prim.Native.Nat.{ℕ}
+use lib.ListN.{getD}
 use Rattle.text.specs.Text.{Put}
 use Rattle.entry.specs.declared.Judged.{Judged}
 use Rattle.entry.specs.declared.Judged.the-variants.{Refuse, Skip, Write}
 use Rattle.entry.specs.declared.Last.{Last}
 use Rattle.entry.specs.declared.Wrote.{Wrote}
+
+-- the word at i, and 0 past the end
+abbrev pub word : List ℕ → ℕ → ℕ
+word ws i = getD ws i 0
 
 -- before the first entry
 abbrev pub noLast : Last

@@ -1,5 +1,7 @@
-// One entry of a book, of whatever kind: what it comes to and what it leaves to the next.
+// One entry of a book, of whatever kind: its words, what it comes to and what it leaves to the next.
 ghost use mathlib.Core.Path.{_≡_};
+ghost use mathlib.Core.Bool.{_&&_};
+ghost use lib.ListN.{getD};
 ghost use Rattle.entry.specs.Entry.{noLast};
 
 // What becomes of an entry: refused by this number, skipped, or written.
@@ -37,4 +39,23 @@ impl Last {
             prolog_size: 0,
         }
     }
+}
+
+// The word at i, and 0 past the end.
+pub fn word(words: &[u32], i: usize) -> u32
+    ensures { λ r. ⌜ r ≡ getD (now (words .entry)) i 0 ⌝ }
+{
+    if i < words.len() {
+        return words[i];
+    }
+    0
+}
+
+pub fn both(a: bool, b: bool) -> bool
+    ensures { λ r. ⌜ r ≡ (a && b) ⌝ }
+{
+    if a {
+        return b;
+    }
+    false
 }

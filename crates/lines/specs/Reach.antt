@@ -5,7 +5,7 @@ use mathlib.Core.Path.{_≡_}
 use mathlib.Core.Bool.{Bool, true, false, cond}
 use lib.IntN.{ℤ, pos, negsuc, subℕ}
 use lib.Dec.{ltb}
-use Rattle.text.specs.Tests.{below}
+use borrow.Author.Tests.{lt-ltb}
 
 unfoldable pub inside : ℤ → Bool
 inside (pos n) = ltb n (2 ^ 31)
@@ -17,5 +17,5 @@ unfolding inside
 difference-inside a b h k = go (ltb a b)
   where
     go : (t : Bool) → inside (cond t (negsuc (b - suc a)) (pos (a - b))) ≡ true
-    go true = below (b - suc a) (2 ^ 31) (omega arith)
-    go false = below (a - b) (2 ^ 31) (omega arith)
+    go true = lt-ltb (b - suc a) (2 ^ 31) (omega arith)
+    go false = lt-ltb (a - b) (2 ^ 31) (omega arith)

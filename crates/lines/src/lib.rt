@@ -4,11 +4,9 @@ use text::put_bytes;
 use text::put_hex;
 use text::put_signed;
 ghost use mathlib.Core.Path.{_≡_};
-ghost use mathlib.Core.List.{_++_};
 ghost use Prim.Native.Nat.{_^_, _<_};
 ghost use lib.IntN.{subℕ};
-ghost use Rattle.text.specs.Text.{Put, ascii};
-ghost use Rattle.text.specs.Digits.{signed};
+ghost use Rattle.text.specs.Text.{Put};
 ghost use Rattle.lines.specs.Lines.{amount, formText, ruleText, initText, laterText, field, flag, winText};
 ghost use Rattle.lines.specs.Rules.{regName, ruleName, formOf, ruleOf};
 

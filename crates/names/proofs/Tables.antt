@@ -8,8 +8,8 @@ use native.Mathlib.Omega.{arith}
 use native.Mathlib.Decide.{decLt}
 use lib.Dec.{T, eqb, eqb→eq, leb, leb→le, ltb}
 use lib.ListN.{length, getD, replicate}
-use borrow.Author.Tests.{lt-leb}
-use Rattle.text.specs.Tests.{is-true, is-false, above, eqb-no, tests, at, eqw, eqw→eq, and-l, and-r}
+use borrow.Author.Tests.{lt-leb, le-ltb, ne-eqb}
+use Rattle.text.specs.Tests.{is-true, is-false, tests, at, eqw, eqw→eq, and-l, and-r}
 use Rattle.names.specs.Names.{Holds}
 use Rattle.names.specs.Table.{lengthAt, nameAt, Entry}
 use Rattle.names.specs.declared.RegisterName.{RegisterName}
@@ -79,7 +79,7 @@ abbrev pub around : ℕ → ℕ → ℕ → ℕ → Bool
 around gap after end i = cond (ltb i gap) true (cond (ltb i after) false (ltb i end))
 
 pub around-out : (gap after end i : ℕ) → gap ≤ end → after ≤ end → end ≤ i → around gap after end i ≡ false
-around-out gap after end i p q h = rw (above i gap (omega arith), above i after (omega arith), above i end h)
+around-out gap after end i p q h = rw (le-ltb i gap (omega arith), le-ltb i after (omega arith), le-ltb i end h)
 
 -- the numbers between PowerPC's names
 abbrev pub gaps : ℕ → Bool
@@ -88,13 +88,13 @@ gaps i =
 
 pub gaps-out : (i : ℕ) → 117 ≤ i → gaps i ≡ false
 gaps-out i h = simp (
-  eqb-no i 64 (λ e. omega arith),
-  eqb-no i 67 (λ e. omega arith),
-  eqb-no i 109 (λ e. omega arith),
-  eqb-no i 111 (λ e. omega arith),
-  eqb-no i 112 (λ e. omega arith),
-  eqb-no i 113 (λ e. omega arith),
-  above i 117 h,
+  ne-eqb i 64 (λ e. omega arith),
+  ne-eqb i 67 (λ e. omega arith),
+  ne-eqb i 109 (λ e. omega arith),
+  ne-eqb i 111 (λ e. omega arith),
+  ne-eqb i 112 (λ e. omega arith),
+  ne-eqb i 113 (λ e. omega arith),
+  le-ltb i 117 h,
 )
 
 -- a number from k on that is not k

@@ -8,28 +8,21 @@ use mathlib.Core.List.{List, [], _∷_, _++_, append-assoc, reverse, reverseAux,
 use borrow.Author.Tests.{ne-eqb, eq-eqb}
 use lib.ListN.{length}
 use lib.Dec.{T, leb, eqb, leb→le, eqb→eq}
-use Rattle.text.specs.Tests.{and-l, and-r, both, all}
+use Rattle.text.specs.Tests.{and-l, and-r, both, all, one-less}
 use Rattle.lines.specs.declared.StackInfo.{StackInfo}
 use Rattle.entry.specs.declared.Judged.the-variants.{Refuse, Skip, Write}
 use Rattle.entry.specs.declared.Last.{Last}
 use Rattle.pdb.specs.declared.Range.{Range}
-use Rattle.pdb.specs.Pdb.{word, startOf, endOf, rangeAt, ranges, wordsFrom, prologs, codes, program, sizesFit, flagsFit, hasProgram, lengthFits, countsFit, rangeFits, apart, differ, rangesFit, printable, restFits, pdbLayout, pdbSkipped, inReach, lead, trim, infoText, infosText, contiguous, pdbJudged}
+use Rattle.entry.specs.Entry.{word}
+use Rattle.pdb.specs.Pdb.{startOf, endOf, rangeAt, ranges, wordsFrom, prologs, codes, program, sizesFit, flagsFit, hasProgram, lengthFits, countsFit, rangeFits, apart, differ, rangesFit, printable, restFits, pdbLayout, pdbSkipped, inReach, lead, trim, infoText, infosText, contiguous, pdbJudged}
 use Rattle.pdb.specs.declared.Found.{Found}
 use Rattle.pdb.specs.Sorted.{step, found}
-
--- a row of tests, one after the other
-pub and-no : (a b : Bool) → a ≡ false → false ≡ (a && b)
-and-no a b h = rw h
-
-pub and-yes : (a b : Bool) → a ≡ true → b ≡ (a && b)
-and-yes a b h = rw h
 
 -- ---- one step of each
 
 pub words-step : (ws : List ℕ) (a n : ℕ) → 0 < n → wordsFrom ws a n ≡ word ws a ∷ wordsFrom ws (a + 1) (n - 1)
 unfolding wordsFrom
-words-step ws a zero h = absurd (omega arith)
-words-step ws a (suc n) h = let e : suc n - 1 ≡ n = omega arith in rw e
+words-step ws a n h = ap (wordsFrom ws a) (one-less n h)
 
 pub words-snoc : (ws : List ℕ) (a n : ℕ) → wordsFrom ws a (suc n) ≡ wordsFrom ws a n ++ (word ws (a + n) ∷ [])
 unfolding wordsFrom
@@ -93,8 +86,7 @@ past-end ws a n h k = go (all printable (wordsFrom ws a n)) refl
 
 pub apart-step : (ws : List ℕ) (s a n : ℕ) → 0 < n → apart s (ranges ws a n) ≡ (not (eqb (word ws a) s) && apart s (ranges ws (a + 2) (n - 1)))
 unfolding apart ranges rangeAt
-apart-step ws s a zero h = absurd (omega arith)
-apart-step ws s a (suc n) h = let e : suc n - 1 ≡ n = omega arith in rw e
+apart-step ws s a n h = ap (λ (k : ℕ). apart s (ranges ws a k)) (one-less n h)
 
 fits-cons : (r : Range) (rs : List Range) → rangesFit (r ∷ rs) ≡ (rangeFits r && (apart (startOf r) rs && rangesFit rs))
 unfolding rangesFit differ
@@ -115,8 +107,7 @@ fits-step ws a (suc n) h = let e : suc n - 1 ≡ n = omega arith in rw e (fits-c
 
 pub found-step : (ws : List ℕ) (b : ℕ) (f : Found) (a n : ℕ) → 0 < n → found b f (ranges ws a n) ≡ found b (step b f (rangeAt ws a)) (ranges ws (a + 2) (n - 1))
 unfolding found ranges
-found-step ws b f a zero h = absurd (omega arith)
-found-step ws b f a (suc n) h = let e : suc n - 1 ≡ n = omega arith in rw e
+found-step ws b f a n h = ap (λ (k : ℕ). found b f (ranges ws a k)) (one-less n h)
 
 pub ranges-length : (ws : List ℕ) (a n : ℕ) → length (ranges ws a n) ≡ n
 unfolding ranges

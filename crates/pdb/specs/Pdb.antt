@@ -6,7 +6,7 @@
 use Prim.Native.Nat.{ℕ, zero, suc, _+_, _-_, _*_}
 use mathlib.Core.Bool.{Bool, true, false, not, cond, _&&_, _||_}
 use mathlib.Core.List.{List, [], _∷_, _++_, map, reverse}
-use lib.ListN.{length, getD}
+use lib.ListN.{length}
 use lib.Dec.{ltb, leb, eqb}
 use Rattle.text.specs.Text.{ascii}
 use Rattle.text.specs.Tests.{all}
@@ -16,11 +16,8 @@ use Rattle.lines.specs.Lines.{winText, Lines·open}
 use Rattle.entry.specs.declared.Judged.{Judged}
 use Rattle.entry.specs.declared.Judged.the-variants.{Refuse, Skip, Write}
 use Rattle.entry.specs.declared.Last.{Last}
-use Rattle.entry.specs.Entry.{Entry, comesTo}
+use Rattle.entry.specs.Entry.{Entry, comesTo, word}
 use Rattle.pdb.specs.declared.Range.{Range}
-
-abbrev pub word : List ℕ → ℕ → ℕ
-word ws i = getD ws i 0
 
 -- ---- ranges and program from words
 

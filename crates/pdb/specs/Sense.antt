@@ -6,16 +6,18 @@ use native.Mathlib.Omega.{arith}
 use mathlib.Core.Bool.{Bool, true, false, not, cond}
 use mathlib.Core.List.{List, [], _∷_, _++_, map}
 use lib.Dec.{T, leb, eqb, leb→le}
-use Rattle.text.specs.Tests.{all, all-mono, and-l, both, eqb-no}
+use borrow.Author.Tests.{ne-eqb}
+use Rattle.text.specs.Tests.{all, all-mono, and-l, both}
 use Rattle.text.specs.Digits.{digit, hex}
 use Rattle.text.specs.Digits.Laws.{hex-all}
 use Rattle.lines.specs.declared.StackInfo.{StackInfo}
 use Rattle.lines.specs.Lines.{Line, win, lineText, render, lineOk}
+use Rattle.lines.specs.Lines.Laws.{render-none}
 use Rattle.entry.specs.declared.Judged.{Judged}
 use Rattle.entry.specs.declared.Judged.the-variants.{Refuse, Skip, Write}
 use Rattle.entry.specs.declared.Last.{Last}
-use Rattle.entry.specs.Entry.{comesTo, ifWritten}
-use Rattle.pdb.specs.Pdb.{word, program, printable, hasProgram, pdbLayout, leaves, trim, tailText, infoText, infosText, stackInfos, pdbText, pdbJudged, pdbEntry}
+use Rattle.entry.specs.Entry.{comesTo, ifWritten, word}
+use Rattle.pdb.specs.Pdb.{program, printable, hasProgram, pdbLayout, leaves, trim, tailText, infoText, infosText, stackInfos, pdbText, pdbJudged, pdbEntry}
 use Rattle.pdb.specs.Index.{layout-program, trim-all, written}
 
 unfoldable pub winLine : List ℕ → StackInfo → Line
@@ -38,24 +40,20 @@ pub pdb-text : (ws : List ℕ) → pdbText ws ≡ render false (winLines ws)
 unfolding pdbText winLines
 pdb-text ws = infos-render ws (stackInfos ws)
 
-no-lines : [] ≡ render false []
-unfolding render
-no-lines = refl
-
 pub pdb-entry-text : (last : Last) (ws : List ℕ) → pdbEntry last ws .text ≡ render false (pdbLines last ws)
 unfolding pdbEntry pdbLines
 pdb-entry-text last ws = go (pdbJudged last ws)
   where
     go : (j : Judged) → comesTo j (pdbText ws) last (leaves ws) .text ≡ render false (ifWritten j (winLines ws))
-    go (Refuse n) = no-lines
-    go Skip = no-lines
+    go (Refuse n) = render-none false
+    go Skip = render-none false
     go Write = pdb-text ws
 
 -- ---- the lines are well formed
 
 unbroken : (c : ℕ) → T (printable c) → T (not (eqb c 10))
 unfolding printable
-unbroken c h = let k : 32 ≤ c = leb→le 32 c (and-l (leb 32 c) _ h) in rw (eqb-no c 10 (omega arith)) tt
+unbroken c h = let k : 32 ≤ c = leb→le 32 c (and-l (leb 32 c) _ h) in rw (ne-eqb c 10 (omega arith)) tt
 
 tail-ok : (ws : List ℕ) → T (pdbLayout ws) → T (all (λ c. not (eqb c 10)) (tailText ws))
 unfolding tailText digit

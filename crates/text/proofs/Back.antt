@@ -1,14 +1,14 @@
 -- Digits stored from the last one back: what is left to store, and how many digits there are.
 use mathlib.Core.Path.{_≡_, refl, sym, ap, _∙_, subst}
 use mathlib.Core.List.{List, [], _∷_, _++_, append-assoc, append-nil}
-use Prim.Native.Nat.{ℕ, zero, suc, _+_, _-_, _*_, _/_, _%_, _^_, _≤_, _<_}
+use Prim.Native.Nat.{ℕ, zero, suc, _+_, _-_, _/_, _%_, _^_, _≤_, _<_}
 use native.Mathlib.Nat.{mod-eq-of-lt, pow-le-pow-left}
 use native.Mathlib.Omega.{arith}
 use lib.ListN.{length, set, length-append}
 use lib.Seq.{sets, set-comm}
 use Rattle.text.specs.Text.{MAX, Put}
 use Rattle.text.specs.Digits.{digit, digits}
-use Rattle.text.specs.Digits.Laws.{digits-ind, digits-one, digits-more, digits-some, digits-length}
+use Rattle.text.specs.Digits.Laws.{digits-ind, digits-one, digits-more, digits-length}
 
 -- ---- how many
 

@@ -12,7 +12,8 @@ use Rattle.text.specs.Tests.{and-l, and-r}
 use Rattle.x64.specs.declared.Op.{Op}
 use Rattle.lines.specs.Lines.{rulesText}
 use Rattle.lines.specs.Lines.Laws.{rules-append}
-use Rattle.x64.specs.X64.{word, infoCount, chain, growthOf, valueOf, run, opRules, infoFits, infosFit, x64Layout}
+use Rattle.entry.specs.Entry.{word}
+use Rattle.x64.specs.X64.{infoCount, chain, growthOf, valueOf, run, opRules, infoFits, infosFit, x64Layout}
 use Rattle.x64.specs.Index.{opAt, opsRun, infoOps, nextInfo, chainFrom, growths, within, reaches, ops-step, chain-step, chain-run, infos-fit-step, count-small, layout-infos, layout-few, run-append, reaches-append, reaches-small}
 
 -- k operations of an info are left, at total s

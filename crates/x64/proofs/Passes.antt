@@ -5,10 +5,11 @@ use native.Mathlib.Omega.{arith}
 use mathlib.Core.Bool.{Bool, false}
 use mathlib.Core.List.{List}
 use lib.Dec.{T}
-use Rattle.text.specs.Tests.{and-l, and-r}
+use Rattle.text.specs.Tests.{and-l, and-r, or-no}
 use Rattle.x64.specs.declared.Scan.{Scan}
-use Rattle.x64.specs.X64.{word, infoCount, chain, infoFits, infosFit, x64Layout, undecodableOps, undecodableInfos}
-use Rattle.x64.specs.Index.{opAt, opsRun, infoOps, nextInfo, chainFrom, ops-step, chain-step, chain-run, infos-fit-step, count-small, undecodable-step, info-bound, layout-infos, layout-few, or-no}
+use Rattle.entry.specs.Entry.{word}
+use Rattle.x64.specs.X64.{infoCount, chain, infoFits, infosFit, x64Layout, undecodableOps, undecodableInfos}
+use Rattle.x64.specs.Index.{opAt, opsRun, infoOps, nextInfo, chainFrom, ops-step, chain-step, chain-run, infos-fit-step, count-small, undecodable-step, info-bound, layout-infos, layout-few}
 use Rattle.x64.specs.Scan.{scanStep, scanned, scanStart, scanned-append}
 
 pub record OpsScan (ws : List ℕ) (f o a : ℕ) (z s : Scan) (k : ℕ) : Type 0 where

@@ -1,22 +1,13 @@
 -- Rules as `put_saved` and its like write them, and the texts of the definitions.
 use mathlib.Core.Path.{_≡_, sym, ap, _∙_}
 use Prim.Native.Nat.{ℕ, _-_}
-use native.Mathlib.Omega.{arith}
 use mathlib.Core.Bool.{false}
 use mathlib.Core.List.{List, [], _∷_, _++_, append-nil, append-assoc}
 use lib.IntN.{ℤ, pos, subℕ}
 use Rattle.text.specs.Text.{ascii, Put}
 use Rattle.text.specs.Text.Laws.{put-as, _⨾_}
-use Rattle.text.specs.Tests.{above}
 use Rattle.lines.specs.Lines.{Bytes, Rule, rule, atCfaMinus, init, ruleText, rulesText, initText, lineText}
-use Rattle.lines.specs.Lines.Laws.{rules-append}
-
-pub sub-none : (a : ℕ) → subℕ a 0 ≡ pos a
-sub-none a = let e : a - 0 ≡ a = omega arith in rw (above a 0 (omega arith), e)
-
-pub put-one : {d d′ : List ℕ} {at r : ℕ} (q : Rule) → Put d at (ruleText q) d′ r → Put d at (rulesText (q ∷ [])) d′ r
-unfolding rulesText
-put-one q p = put-as p (sym (append-nil (ruleText q)))
+use Rattle.lines.specs.Lines.Laws.{rules-append, sub-none}
 
 pub put-two : {d d₁ d₂ : List ℕ} {at r₁ r₂ : ℕ} (q q′ : Rule) → Put d at (ruleText q) d₁ r₁ → Put d₁ r₁ (ruleText q′) d₂ r₂ → Put d at (rulesText (q ∷ q′ ∷ [])) d₂ r₂
 unfolding rulesText

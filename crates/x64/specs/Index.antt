@@ -5,15 +5,16 @@ use native.Mathlib.Omega.{arith}
 use native.Mathlib.Nat.{add-assoc}
 use mathlib.Core.Bool.{Bool, true, false, cond, _&&_, _||_}
 use mathlib.Core.List.{List, [], _∷_, _++_, append-assoc}
-use borrow.Author.Tests.{le-leb, eqb-true}
+use borrow.Author.Tests.{le-leb, eqb-true, lt-ltb}
 use lib.Dec.{T, ltb, leb, eqb, ltb→lt, leb→le}
 use Rattle.lines.specs.Reach.{inside, difference-inside}
-use Rattle.text.specs.Tests.{below, and-l, and-r, both, all, all-append}
+use Rattle.text.specs.Tests.{and-l, and-r, both, all, all-append, one-less, either}
 use Rattle.entry.specs.declared.Judged.{Judged}
 use Rattle.entry.specs.declared.Judged.the-variants.{Refuse, Skip, Write}
 use Rattle.x64.specs.declared.Op.{Op}
 use Rattle.x64.specs.declared.Op.the-variants.{PushNonVolatile, Alloc, SaveRsp, SaveFp, SetFpRegister, PushMachineFrame, Other, Undecodable}
-use Rattle.x64.specs.X64.{word, opOf, stored, infos, backwards, inOrder, infoCount, chain, growthOf, valueOf, run, total, opFits, opsFit, infoFits, infosFit, x64Layout, undecodableOps, undecodableInfos, printed, inReach, setCount, x64Reach, x64Skipped, x64Judged}
+use Rattle.entry.specs.Entry.{word}
+use Rattle.x64.specs.X64.{opOf, stored, infos, backwards, inOrder, infoCount, chain, growthOf, valueOf, run, opFits, opsFit, infoFits, infosFit, x64Layout, undecodableOps, undecodableInfos, printed, inReach, setCount, x64Reach, x64Skipped, x64Judged}
 
 -- ---- operations
 
@@ -67,11 +68,6 @@ unfoldable pub growths : List Op → ℕ
 growths [] = 0
 growths (o ∷ os) = growthOf o + growths os
 
-pub total-sum : (S : ℕ) (os : List Op) → total S os ≡ S + growths os
-unfolding total growths
-total-sum S [] = omega arith
-total-sum S (o ∷ os) = rw (total-sum (S + growthOf o) os) (omega arith)
-
 -- the value that an operation uses and the total after it are below 2^31: what the code tests for refusal 6
 abbrev pub within : ℕ → Op → Bool
 within S o = ltb (valueOf o) (2 ^ 31) && ltb (S + growthOf o) (2 ^ 31)
@@ -84,48 +80,29 @@ reaches S (o ∷ os) = within S o && reaches (S + growthOf o) os
 
 pub ops-step : (ws : List ℕ) (f o a n : ℕ) → 0 < n → opsRun ws f o a n ≡ opAt ws f o (a + 3 * (n - 1)) ∷ opsRun ws f o a (n - 1)
 unfolding opsRun
-ops-step ws f o a zero h = absurd (omega arith)
-ops-step ws f o a (suc n) h = let e : suc n - 1 ≡ n = omega arith in rw e
+ops-step ws f o a n h = ap (opsRun ws f o a) (one-less n h)
 
 pub chain-step : (ws : List ℕ) (m a : ℕ) → 0 < m → chainFrom ws m a ≡ infoOps ws a ++ chainFrom ws (m - 1) (nextInfo ws a)
 unfolding chainFrom
-chain-step ws zero a h = absurd (omega arith)
-chain-step ws (suc m) a h = let e : suc m - 1 ≡ m = omega arith in rw e
+chain-step ws m a h = ap (λ (k : ℕ). chainFrom ws k a) (one-less m h)
 
 pub infos-fit-step : (ws : List ℕ) (m a : ℕ) → 0 < m → infosFit ws m a ≡ (infoFits ws a && infosFit ws (m - 1) (nextInfo ws a))
 unfolding infosFit
-infos-fit-step ws zero a h = absurd (omega arith)
-infos-fit-step ws (suc m) a h = let e : suc m - 1 ≡ m = omega arith in rw e
+infos-fit-step ws m a h = ap (λ (k : ℕ). infosFit ws k a) (one-less m h)
 
 pub ops-fit-step : (ws : List ℕ) (a n : ℕ) → 0 < n
     → opsFit ws a n ≡ (opFits (word ws a) (word ws (a + 1)) (word ws (a + 2)) && opsFit ws (a + 3) (n - 1))
 unfolding opsFit
-ops-fit-step ws a zero h = absurd (omega arith)
-ops-fit-step ws a (suc n) h = let e : suc n - 1 ≡ n = omega arith in rw e
+ops-fit-step ws a n h = ap (opsFit ws a) (one-less n h)
 
 pub undecodable-ops-step : (ws : List ℕ) (a n : ℕ) → 0 < n → undecodableOps ws a n ≡ (eqb (word ws a) 8 || undecodableOps ws (a + 3) (n - 1))
 unfolding undecodableOps
-undecodable-ops-step ws a zero h = absurd (omega arith)
-undecodable-ops-step ws a (suc n) h = let e : suc n - 1 ≡ n = omega arith in rw e
+undecodable-ops-step ws a n h = ap (undecodableOps ws a) (one-less n h)
 
 pub undecodable-step : (ws : List ℕ) (m a : ℕ) → 0 < m
     → undecodableInfos ws m a ≡ (undecodableOps ws (a + 3) (word ws (a + 2)) || undecodableInfos ws (m - 1) (nextInfo ws a))
 unfolding undecodableInfos
-undecodable-step ws zero a h = absurd (omega arith)
-undecodable-step ws (suc m) a h = let e : suc m - 1 ≡ m = omega arith in rw e
-
--- a row of tests, one after the other
-pub and-no : (a b : Bool) → a ≡ false → false ≡ (a && b)
-and-no a b h = rw h
-
-pub and-yes : (a b : Bool) → a ≡ true → b ≡ (a && b)
-and-yes a b h = rw h
-
-pub or-yes : (a b : Bool) → a ≡ true → true ≡ (a || b)
-or-yes a b h = rw h
-
-pub or-no : (a b : Bool) → a ≡ false → b ≡ (a || b)
-or-no a b h = rw h
+undecodable-step ws m a h = ap (λ (k : ℕ). undecodableInfos ws k a) (one-less m h)
 
 -- ---- bounds that the layout gives
 
@@ -187,13 +164,13 @@ offsetOk Undecodable = true
 
 places-inside : (S : ℕ) (o : Op) → S < 2 ^ 31 → T (offsetOk o) → valueOf o < 2 ^ 31 → S + growthOf o < 2 ^ 31 → all inside (printed S o) ≡ true
 unfolding printed valueOf growthOf offsetOk inside
-places-inside S (PushNonVolatile r) h w v g = rw (below (S + 8) (2 ^ 31) g)
+places-inside S (PushNonVolatile r) h w v g = rw (lt-ltb (S + 8) (2 ^ 31) g)
 places-inside S (Alloc n) h w v g = refl
 places-inside S (SaveRsp r n) h w v g = rw (difference-inside S n h v)
 places-inside S (SaveFp r n f o) h w v g = let k : o ≤ 240 = leb→le o 240 w in rw (difference-inside n o v (omega arith))
 places-inside S (SetFpRegister f o) h w v g = let k : o ≤ 240 = leb→le o 240 w in rw (difference-inside S o h (omega arith))
-places-inside S (PushMachineFrame true) h w v g = rw (below (S + 16) (2 ^ 31) (omega arith), below (S + 40) (2 ^ 31) (omega arith))
-places-inside S (PushMachineFrame false) h w v g = rw (below (S + 16) (2 ^ 31) (omega arith), below (S + 40) (2 ^ 31) (omega arith))
+places-inside S (PushMachineFrame true) h w v g = rw (lt-ltb (S + 16) (2 ^ 31) (omega arith), lt-ltb (S + 40) (2 ^ 31) (omega arith))
+places-inside S (PushMachineFrame false) h w v g = rw (lt-ltb (S + 16) (2 ^ 31) (omega arith), lt-ltb (S + 40) (2 ^ 31) (omega arith))
 places-inside S Other h w v g = refl
 places-inside S Undecodable h w v g = refl
 
@@ -209,15 +186,12 @@ reach-is S (o ∷ os) h w = go (ltb (valueOf o) (2 ^ 31)) (ltb (S + growthOf o) 
     go true false p q r = refl
     go false b p q r = refl
 
-either : (t : Bool) (x y : Op) → T (offsetOk x) → T (offsetOk y) → T (offsetOk (cond t x y))
-either true x y h k = h
-either false x y h k = k
-
 of-ok : (f o k r v : ℕ) → T (leb o 240) → T (offsetOk (opOf f o k r v))
 unfolding opOf offsetOk
 of-ok f o k r v h =
-    either (eqb k 1) (PushNonVolatile r) _ tt (either (eqb k 2) (Alloc v) _ tt (either (eqb k 3) (SaveRsp r v) _ tt (either (eqb k 4) (SaveFp r v f o) _ h
-    (either (eqb k 5) (SetFpRegister f o) _ h (either (eqb k 6) (PushMachineFrame (eqb v 1)) _ tt (either (eqb k 8) Undecodable Other tt tt))))))
+    let by = either offsetOk in
+    by (eqb k 1) (PushNonVolatile r) _ tt (by (eqb k 2) (Alloc v) _ tt (by (eqb k 3) (SaveRsp r v) _ tt (by (eqb k 4) (SaveFp r v f o) _ h
+    (by (eqb k 5) (SetFpRegister f o) _ h (by (eqb k 6) (PushMachineFrame (eqb v 1)) _ tt (by (eqb k 8) Undecodable Other tt tt))))))
 
 ops-ok : (ws : List ℕ) (f o a n : ℕ) → T (leb o 240) → T (all offsetOk (opsRun ws f o a n))
 unfolding opsRun opAt

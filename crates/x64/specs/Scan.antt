@@ -6,7 +6,8 @@ use mathlib.Core.Bool.{Bool, true, false, not, cond, _&&_, _||_}
 use mathlib.Core.List.{List, [], _∷_, _++_}
 use lib.IntN.{pos, subℕ}
 use lib.Dec.{T, ltb, ltb→lt}
-use Rattle.text.specs.Tests.{is-true, above, below, and-l, and-r}
+use borrow.Author.Tests.{le-ltb, lt-ltb}
+use Rattle.text.specs.Tests.{is-true, and-l, and-r}
 use Rattle.x64.specs.declared.Op.{Op}
 use Rattle.x64.specs.declared.Op.the-variants.{PushNonVolatile, Alloc, SaveRsp, SaveFp, SetFpRegister, PushMachineFrame, Other, Undecodable}
 use Rattle.x64.specs.declared.Scan.{Scan}
@@ -78,15 +79,15 @@ step-lost s o h = rw h
 module _ (s : Scan) (o : Op) (h : s .lost ≡ false) where
   pub step-value : 2 ^ 31 ≤ valueOf o → lose s ≡ scanStep s o
   unfolding scanStep
-  step-value k = rw (h, above (valueOf o) (2 ^ 31) k)
+  step-value k = rw (h, le-ltb (valueOf o) (2 ^ 31) k)
 
   pub step-total : valueOf o < 2 ^ 31 → 2 ^ 31 ≤ s .total + growthOf o → lose s ≡ scanStep s o
   unfolding scanStep
-  step-total j k = rw (h, below (valueOf o) (2 ^ 31) j, above (s .total + growthOf o) (2 ^ 31) k)
+  step-total j k = rw (h, lt-ltb (valueOf o) (2 ^ 31) j, le-ltb (s .total + growthOf o) (2 ^ 31) k)
 
   pub step-on : valueOf o < 2 ^ 31 → s .total + growthOf o < 2 ^ 31 → advance s o (s .total + growthOf o) ≡ scanStep s o
   unfolding scanStep
-  step-on j k = rw (h, below (valueOf o) (2 ^ 31) j, below (s .total + growthOf o) (2 ^ 31) k)
+  step-on j k = rw (h, lt-ltb (valueOf o) (2 ^ 31) j, lt-ltb (s .total + growthOf o) (2 ^ 31) k)
 
   pub step-within : T (within (s .total) o) → scanStep s o ≡ advance s o (s .total + growthOf o)
   unfolding scanStep
@@ -181,7 +182,7 @@ advance-again s (Alloc v) S n = let e : 0 + n ≡ n = omega arith in rw e
 advance-again s (SaveRsp r v) S n = let e : 0 + n ≡ n = omega arith in rw e
 advance-again s (SaveFp r v f o) S n = let e : 0 + n ≡ n = omega arith in rw e
 advance-again s (SetFpRegister f o) S n = elim (s .set) as (λ t. ((t || s .twice) || ltb 1 (1 + n)) ≡ (s .twice || ltb 1 (cond t 1 0 + (1 + n)))) [
-  | true ↦ rw (below 1 (1 + (1 + n)) (omega arith), or-true (s .twice))
+  | true ↦ rw (lt-ltb 1 (1 + (1 + n)) (omega arith), or-true (s .twice))
   | false ↦ let e : 0 + (1 + n) ≡ 1 + n = omega arith in rw e
 ]
 advance-again s (PushMachineFrame e) S n = let e : 0 + n ≡ n = omega arith in rw e

@@ -15,14 +15,15 @@ use Rattle.text.specs.Text.{ascii}
 use Rattle.text.specs.Tests.{is-true, all, all-append, and-l, both}
 use Rattle.names.specs.Names.{peName}
 use Rattle.lines.specs.Lines.{Form, registerPlus, Rule, rule, Line, init, cfa, lineText, render, nameOk, registerOk, formOk, ruleOk, lineOk}
+use Rattle.lines.specs.Lines.Laws.{render-none}
 use Rattle.lines.specs.Rules.Laws.{pe-ok}
 use Rattle.entry.specs.declared.Judged.{Judged}
 use Rattle.entry.specs.declared.Judged.the-variants.{Refuse, Skip, Write}
 use Rattle.entry.specs.declared.Last.{Last}
-use Rattle.entry.specs.Entry.{comesTo, ifWritten}
+use Rattle.entry.specs.Entry.{comesTo, ifWritten, word}
 use Rattle.x64.specs.declared.Op.{Op}
 use Rattle.x64.specs.declared.Op.the-variants.{PushNonVolatile, Alloc, SaveRsp, SaveFp, SetFpRegister, PushMachineFrame, Other, Undecodable}
-use Rattle.x64.specs.X64.{word, chain, growthOf, run, total, machineRules, opRules, opCfa, cfaForm, isMachine, anyMachine, raRules, ranRules, x64Text, isSet, setCount, x64Judged, x64Entry}
+use Rattle.x64.specs.X64.{chain, growthOf, run, total, machineRules, opRules, opCfa, cfaForm, isMachine, anyMachine, raRules, ranRules, x64Text, isSet, setCount, x64Judged, x64Entry}
 
 -- 8 a push, an allocation's value, 40 a machine frame and 8 its error code
 unfoldable pub addedBy : Op → ℕ
@@ -96,10 +97,6 @@ pub rules-ran : (os : List Op) → ranRules os ≡ x64Rules os
 unfolding ranRules x64Rules
 rules-ran os = rw (sums-run opCfa os, sums-run opRules os, sum-total 8 os)
 
-nothing : [] ≡ render false []
-unfolding render
-nothing = refl
-
 -- the text as it is run is the rendering of the line
 pub x64-text : (ws : List ℕ) → x64Text ws ≡ render false (x64Line ws ∷ [])
 unfolding x64Text x64Line render
@@ -165,8 +162,8 @@ unfolding x64Entry x64Lines
 x64-entry-text limit last ws = go (x64Judged limit ws)
   where
     go : (j : Judged) → comesTo j (x64Text ws) last last .text ≡ render false (ifWritten j (x64Line ws ∷ []))
-    go (Refuse n) = nothing
-    go Skip = nothing
+    go (Refuse n) = render-none false
+    go Skip = render-none false
     go Write = x64-text ws
 
 pub x64-entry-ok : (limit : ℕ) (ws : List ℕ) → T (all lineOk (x64Lines limit ws))

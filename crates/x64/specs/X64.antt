@@ -3,7 +3,7 @@
 use Prim.Native.Nat.{ℕ, zero, suc, min, _+_, _-_, _*_, _^_}
 use mathlib.Core.Bool.{Bool, true, false, cond, _&&_, _||_}
 use mathlib.Core.List.{List, [], _∷_, _++_}
-use lib.ListN.{length, getD}
+use lib.ListN.{length}
 use lib.IntN.{ℤ, pos, subℕ}
 use lib.Dec.{ltb, leb, eqb}
 use Rattle.text.specs.Text.{ascii}
@@ -11,7 +11,7 @@ use Rattle.text.specs.Tests.{all}
 use Rattle.names.specs.Names.{peName, pe-x64}
 use Rattle.lines.specs.Lines.{Form, Rule, rule, registerPlus, atRegisterPlus, atCfaMinus, cfa, init, lineText, Lines·open}
 use Rattle.entry.specs.declared.Last.{Last}
-use Rattle.entry.specs.Entry.{Entry, comesTo}
+use Rattle.entry.specs.Entry.{Entry, comesTo, word}
 use Rattle.x64.specs.declared.Op.{Op}
 use Rattle.x64.specs.declared.Op.the-variants.{PushNonVolatile, Alloc, SaveRsp, SaveFp, SetFpRegister, PushMachineFrame, Other, Undecodable}
 use Rattle.lines.specs.Reach.{inside}
@@ -19,9 +19,6 @@ use Rattle.entry.specs.declared.Judged.{Judged}
 use Rattle.entry.specs.declared.Judged.the-variants.{Refuse, Skip, Write}
 
 -- ---- operations from words
-
-abbrev pub word : List ℕ → ℕ → ℕ
-word ws i = getD ws i 0
 
 -- kind, register and value, in an info with frame register f and frame offset o
 unfoldable pub opOf : ℕ → ℕ → ℕ → ℕ → ℕ → Op

@@ -10,6 +10,7 @@
 use entry::Judged;
 use entry::Last;
 use entry::Wrote;
+use entry::word;
 use lines::Form;
 use lines::Name;
 use lines::Reg;
@@ -19,7 +20,6 @@ use lines::put_init;
 use lines::put_rule;
 use text::put_byte;
 ghost use mathlib.Core.Path.{_≡_};
-ghost use mathlib.Core.List.{[], _∷_, _++_};
 ghost use Prim.Native.Nat.{min, _+_, _-_, _*_, _^_, _<_, _≤_};
 ghost use lib.ListN.{getD};
 ghost use lib.IntN.{subℕ, pos};
@@ -29,7 +29,7 @@ ghost use Rattle.names.specs.Names.{peName};
 ghost use Rattle.entry.specs.Entry.{Processed, comesTo};
 ghost use Rattle.lines.specs.Lines.{rule, cfa, registerPlus, atRegisterPlus, atCfaMinus, ruleText, rulesText};
 ghost use Rattle.x64.specs.X64.{chain, opOf, growthOf, valueOf, run, machineRules, opRules, raRules, x64Text, opFits, opsFit, infoFits, x64Layout, allZero, undecodableOps, undecodableInfos, x64Skipped, x64Entry};
-ghost use Rattle.x64.specs.Index.{opAt, opsRun, chainFrom, growths, reaches, admitted, chainJudged};
+ghost use Rattle.x64.specs.Index.{opAt, opsRun, growths, reaches, admitted, chainJudged};
 ghost use Rattle.x64.specs.Scan.{scanStart, lose, framed, advance, scanStep, scanned, cfaOf, scanNumber};
 
 // An unwind operation with the words that it uses; those that need the frame register carry it with its offset.
@@ -55,16 +55,6 @@ const RSP: u32 = 4;
 
 // Totals, values and places end here: signed 32 bits.
 const REACH: u64 = 0x8000_0000;
-
-// The word at i, and 0 past the end.
-fn word(body: &[u32], i: usize) -> u32
-    ensures { λ r. ⌜ r ≡ getD (now (body .entry)) i 0 ⌝ }
-{
-    if i < body.len() {
-        return body[i];
-    }
-    0
-}
 
 fn op_of(kind: u32, register: u32, value: u32, frame: u32, offset: u32) -> Op
     ensures { λ r. ⌜ r ≡ opOf frame offset kind register value ⌝ }

@@ -2,7 +2,8 @@
 use Prim.Native.Nat.{_+_, _*_, _≤_}
 use mathlib.Core.Path.{_≡_, sym, _∙_}
 use borrow.Author.Tests.{eq-eqb, ne-eqb}
-use Rattle.arm64.specs.Arm64.{word, opCount, undecodable}
+use Rattle.entry.specs.Entry.{word}
+use Rattle.arm64.specs.Arm64.{opCount, undecodable}
 use Rattle.arm64.specs.Index.{undecodable-step}
 use borrow.Author.Needs.{needs}
 use native.Mathlib.Omega.{arith}

@@ -2,7 +2,8 @@
 use mathlib.Core.Path.{_≡_, sym, _∙_}
 use mathlib.Core.Bool.{true, false}
 use borrow.Author.Tests.{not-true, not-false}
-use Rattle.arm64.specs.Arm64.{word, opCount, ops, startEncoder, inReach, armLayout, armJudged}
+use Rattle.entry.specs.Entry.{word}
+use Rattle.arm64.specs.Arm64.{opCount, ops, startEncoder, inReach, armLayout, armJudged}
 use Rattle.arm64.specs.Index.{ops-run, first-end-few, layout-few}
 use native.Mathlib.Omega.{arith}
 use borrow.Author.Needs.{needs}

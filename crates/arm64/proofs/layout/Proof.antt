@@ -2,8 +2,10 @@
 use Prim.Native.Nat.{_+_, _*_, _≤_}
 use mathlib.Core.Path.{_≡_, sym, _∙_}
 use borrow.Author.Tests.{not-true, not-false, lt-leb}
-use Rattle.arm64.specs.Arm64.{word, opCount, opFits, opsFit, armLayout}
-use Rattle.arm64.specs.Index.{ops-fit-step, layout-is, and-no, and-yes}
+use Rattle.entry.specs.Entry.{word}
+use Rattle.arm64.specs.Arm64.{opCount, opFits, opsFit, armLayout}
+use Rattle.text.specs.Tests.{and-no, and-yes}
+use Rattle.arm64.specs.Index.{ops-fit-step, layout-is}
 use borrow.Author.Needs.{needs}
 use native.Mathlib.Omega.{arith}
 use Rattle.arm64.proofs.layout.Statement.{statement}

@@ -5,7 +5,8 @@ use mathlib.Core.List.{List}
 use Rattle.text.specs.Text.Laws.{put-none, put-as}
 use Rattle.lines.specs.Lines.{render}
 use Rattle.arm64.specs.declared.Op.{Op}
-use Rattle.arm64.specs.Arm64.{word, opCount, startEncoder, run, armText, armEntry}
+use Rattle.entry.specs.Entry.{word}
+use Rattle.arm64.specs.Arm64.{opCount, startEncoder, run, armText, armEntry}
 use Rattle.arm64.specs.Index.{opsRun, ops-run, first-end-few, layout-few, written}
 use native.Mathlib.Omega.{arith}
 use borrow.Author.Needs.{needs}

@@ -10,7 +10,7 @@ use Rattle.text.specs.Text.Laws.{put-none}
 use Rattle.lines.specs.Lines.{rule, cfa, registerPlus, ruleText, rulesText}
 use Rattle.lines.specs.Rules.{ruleOf, ruleName, regName, formOf}
 use Rattle.arm64.specs.Arm64.{cfaRule}
-use Rattle.arm64.proofs.Rules.{put-one, sub-none}
+use Rattle.lines.specs.Lines.Laws.{put-one, sub-none}
 use native.Mathlib.Omega.{arith}
 use borrow.Author.Needs.{needs}
 use Rattle.arm64.proofs.put_cfa.Statement.{statement}

@@ -2,7 +2,7 @@
 use Rattle.text.specs.Text.Laws.{put-none}
 use Rattle.lines.specs.Lines.{rulesText}
 use Rattle.lines.specs.Rules.{ruleOf, ruleName, regName, formOf}
-use Rattle.arm64.proofs.Rules.{put-one}
+use Rattle.lines.specs.Lines.Laws.{put-one}
 use native.Mathlib.Omega.{arith}
 use borrow.Author.Needs.{needs}
 use Rattle.arm64.proofs.put_default_cfa.Statement.{statement}

@@ -4,7 +4,7 @@ use Rattle.text.specs.Digits.{Digits·open}
 use Rattle.names.specs.Names.{arm64Name, letterOf}
 use Rattle.lines.specs.Lines.{rulesText}
 use Rattle.lines.specs.Rules.{ruleOf, ruleName, regName, formOf}
-use Rattle.arm64.proofs.Rules.{put-one}
+use Rattle.lines.specs.Lines.Laws.{put-one}
 use native.Mathlib.Omega.{arith}
 use borrow.Author.Needs.{needs}
 use Rattle.arm64.proofs.put_default_ra.Statement.{statement}

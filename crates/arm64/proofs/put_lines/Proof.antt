@@ -2,7 +2,8 @@
 use mathlib.Core.Bool.{true}
 use Rattle.text.specs.Text.Laws.{left-all, put-length}
 use Rattle.lines.specs.Lines.{render}
-use Rattle.arm64.specs.Arm64.{word, startEncoder, run}
+use Rattle.entry.specs.Entry.{word}
+use Rattle.arm64.specs.Arm64.{startEncoder, run}
 use Rattle.arm64.specs.Index.{opsRun, small-start}
 use Rattle.arm64.proofs.Loops.{LinesLeft, line-printable, line-turn, lines-done}
 use borrow.Author.Needs.{needs}

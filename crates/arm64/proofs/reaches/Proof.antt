@@ -1,7 +1,8 @@
 -- `reaches`: what is left to scan gives what all gives (`ScanLeft`).
 use mathlib.Core.Path.{refl, sym, _∙_}
 use borrow.Author.Tests.{not-true, not-false}
-use Rattle.arm64.specs.Arm64.{word, startEncoder, inReach}
+use Rattle.entry.specs.Entry.{word}
+use Rattle.arm64.specs.Arm64.{startEncoder, inReach}
 use Rattle.arm64.specs.Index.{opsRun, small-start}
 use Rattle.arm64.proofs.Loops.{ScanLeft, scan-stop, scan-turn, scan-done}
 use borrow.Author.Needs.{needs}

@@ -13,9 +13,12 @@ add-word c = search needs
 word-requires : tie.Need-word-requires
 word-requires c κs = search needs
 
+cast-result : tie.Need-cast-result
+cast-result c = search needs
+
 returns : tie.Need-returns
 unfolding sizeOf
 returns c = c .word .ensures
 
 pub size-of-spec : {M : Type 1} → statement M
-size-of-spec = tie.close (tie.spec mul-word add-word word-requires returns)
+size-of-spec = tie.close (tie.spec mul-word add-word word-requires cast-result returns)

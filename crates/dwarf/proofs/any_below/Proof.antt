@@ -3,7 +3,7 @@ use mathlib.Core.Path.{_≡_, refl, sym, _∙_}
 use mathlib.Core.Bool.{not, _&&_}
 use lib.Dec.{eqb, ltb}
 use Rattle.dwarf.specs.Dwarf.{wide, rowsFrom, rows, anyBelow}
-use Rattle.dwarf.specs.Index.{or-yes, or-no}
+use Rattle.text.specs.Tests.{or-yes, or-no}
 use Rattle.dwarf.proofs.Loops.{Rest, rest-all, rest-few, rest-turn, below-turn}
 use borrow.Author.Needs.{needs}
 use native.Mathlib.Omega.{arith}

@@ -2,7 +2,8 @@
 use mathlib.Core.Path.{sym, _∙_}
 use Prim.Native.Nat.{_+_}
 use borrow.Author.Tests.{eq-eqb, ne-eqb}
-use Rattle.dwarf.specs.Dwarf.{cfaAt, word}
+use Rattle.entry.specs.Entry.{word}
+use Rattle.dwarf.specs.Dwarf.{cfaAt}
 use borrow.Author.Needs.{needs}
 use Rattle.dwarf.proofs.cfa_at.Statement.{statement}
 use Rattle.dwarf.proofs.cfa_at.Tie as tie

@@ -1,5 +1,5 @@
 -- `count_behind`: by the test.
-use mathlib.Core.Path.{refl, sym}
+use mathlib.Core.Path.{refl}
 use borrow.Author.Needs.{needs}
 use borrow.Author.Tests.{eq-eqb, ne-eqb}
 use Rattle.dwarf.proofs.count_behind.Statement.{statement}

@@ -1,6 +1,7 @@
 -- `head_fits`: each return is a test of the definition.
 use borrow.Author.Tests.{lt-ltb, le-ltb, le-leb, lt-leb}
-use Rattle.dwarf.specs.Dwarf.{headFits, word}
+use Rattle.entry.specs.Entry.{word}
+use Rattle.dwarf.specs.Dwarf.{headFits}
 use native.Mathlib.Omega.{arith}
 use borrow.Author.Needs.{needs}
 use Rattle.dwarf.proofs.head_fits.Statement.{statement}

@@ -2,8 +2,9 @@
 use mathlib.Core.Path.{_≡_, refl, sym, ap, _∙_}
 use mathlib.Core.Bool.{not}
 use Prim.Native.Nat.{_+_, _-_, _*_, _≤_}
-use Rattle.dwarf.specs.Dwarf.{word, rulesFrom, registers, member, once}
-use Rattle.dwarf.specs.Index.{and-yes, and-no}
+use Rattle.entry.specs.Entry.{word}
+use Rattle.dwarf.specs.Dwarf.{rulesFrom, registers, member, once}
+use Rattle.text.specs.Tests.{and-yes, and-no}
 use Rattle.dwarf.proofs.Loops.{once-turn}
 use borrow.Author.Needs.{needs}
 use native.Mathlib.Omega.{arith}

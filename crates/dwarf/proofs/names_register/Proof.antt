@@ -3,8 +3,9 @@ use mathlib.Core.Path.{_≡_, refl, sym, _∙_}
 use Prim.Native.Nat.{_+_, _*_}
 use borrow.Author.Tests.{eq-eqb, ne-eqb}
 use lib.Dec.{eqb}
-use Rattle.dwarf.specs.Dwarf.{word, rulesFrom, registers, member}
-use Rattle.dwarf.specs.Index.{or-yes, or-no}
+use Rattle.entry.specs.Entry.{word}
+use Rattle.dwarf.specs.Dwarf.{rulesFrom, registers, member}
+use Rattle.text.specs.Tests.{or-yes, or-no}
 use Rattle.dwarf.proofs.Loops.{member-turn}
 use borrow.Author.Needs.{needs}
 use native.Mathlib.Omega.{arith}

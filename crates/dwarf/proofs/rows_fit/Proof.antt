@@ -4,7 +4,8 @@ use mathlib.Core.Bool.{true}
 use Prim.Native.Nat.{_+_, _*_, _≤_}
 use borrow.Author.Tests.{not-true, not-false}
 use Rattle.dwarf.specs.Dwarf.{rowCount, rowFits, rowsFit}
-use Rattle.dwarf.specs.Index.{and-no, and-yes, rows-fit-step, row-few, row-bound}
+use Rattle.text.specs.Tests.{and-no, and-yes}
+use Rattle.dwarf.specs.Index.{rows-fit-step, row-few, row-bound}
 use borrow.Author.Needs.{needs}
 use native.Mathlib.Omega.{arith}
 use Rattle.dwarf.proofs.rows_fit.Statement.{statement}

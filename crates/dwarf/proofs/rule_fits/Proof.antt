@@ -1,6 +1,7 @@
 -- `rule_fits`: each return is a test of the definition.
 use borrow.Author.Tests.{lt-ltb, le-ltb}
-use Rattle.dwarf.specs.Dwarf.{ruleFits, word}
+use Rattle.entry.specs.Entry.{word}
+use Rattle.dwarf.specs.Dwarf.{ruleFits}
 use native.Mathlib.Omega.{arith}
 use borrow.Author.Needs.{needs}
 use Rattle.dwarf.proofs.rule_fits.Statement.{statement}

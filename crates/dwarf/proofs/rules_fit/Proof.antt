@@ -3,7 +3,8 @@ use mathlib.Core.Path.{_≡_, refl, sym, _∙_}
 use Prim.Native.Nat.{_+_, _*_}
 use borrow.Author.Tests.{not-true, not-false}
 use Rattle.dwarf.specs.Dwarf.{ruleFits, rulesFit}
-use Rattle.dwarf.specs.Index.{and-yes, and-no, rules-fit-step}
+use Rattle.text.specs.Tests.{and-yes, and-no}
+use Rattle.dwarf.specs.Index.{rules-fit-step}
 use borrow.Author.Needs.{needs}
 use native.Mathlib.Omega.{arith}
 use Rattle.dwarf.proofs.rules_fit.Statement.{statement}

@@ -25,7 +25,7 @@ sub-result-2 c = rw (toZ-pos w64 {n = 18446744073709551615 - c .before .args .w}
 
 returns : tie.Need-returns
 unfolding twos
-returns c = simp (toZ-pos w64 {n = c .before .args .w} (c .if1 .taken), lt-ltb (c .before .args .w) 9223372036854775808 (c .if1 .taken))
+returns c = simp (lt-ltb (c .before .args .w) 9223372036854775808 (c .if1 .taken))
 
 returns-2 : tie.Need-returns-2
 unfolding twos

@@ -1,6 +1,5 @@
 -- `put_rule_name`: by the cases of `Name`, and of its register, one put each.
 use Rattle.lines.specs.Rules.{ruleName, regName}
-use native.Mathlib.Omega.{arith}
 use borrow.Author.Needs.{needs}
 use Rattle.lines.proofs.put_rule_name.Statement.{statement}
 use Rattle.lines.proofs.put_rule_name.Tie as tie

@@ -1,7 +1,13 @@
 -- Texts of rules and lines, one after the other.
 use mathlib.Core.Path.{_≡_, refl, sym}
+use Prim.Native.Nat.{ℕ, _-_}
+use native.Mathlib.Omega.{arith}
 use mathlib.Core.Bool.{Bool}
-use mathlib.Core.List.{List, [], _∷_, _++_, append-assoc}
+use mathlib.Core.List.{List, [], _∷_, _++_, append-nil, append-assoc}
+use borrow.Author.Tests.{le-ltb}
+use lib.IntN.{pos, subℕ}
+use Rattle.text.specs.Text.{Put}
+use Rattle.text.specs.Text.Laws.{put-as}
 use Rattle.lines.specs.Lines.{Rule, Line, ruleText, rulesText, lineText, render}
 
 pub rules-append : (rs qs : List Rule) → rulesText (rs ++ qs) ≡ rulesText rs ++ rulesText qs
@@ -13,3 +19,15 @@ pub render-append : (six : Bool) (ls ms : List Line) → render six (ls ++ ms) �
 unfolding render
 render-append six [] ms = refl
 render-append six (l ∷ ls) ms = rw (render-append six ls ms) (sym (append-assoc (lineText six l) (render six ls) (render six ms)))
+
+pub render-none : (six : Bool) → [] ≡ render six []
+unfolding render
+render-none six = refl
+
+pub put-one : {d d′ : List ℕ} {at r : ℕ} (q : Rule) → Put d at (ruleText q) d′ r → Put d at (rulesText (q ∷ [])) d′ r
+unfolding rulesText
+put-one q p = put-as p (sym (append-nil (ruleText q)))
+
+-- an amount that is no difference
+pub sub-none : (a : ℕ) → subℕ a 0 ≡ pos a
+sub-none a = let e : a - 0 ≡ a = omega arith in rw (le-ltb a 0 (omega arith), e)

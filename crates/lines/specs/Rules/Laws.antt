@@ -5,7 +5,7 @@ use mathlib.Core.List.{List, [], _∷_, _++_}
 use lib.ListN.{getD}
 use lib.Dec.{T, eqb}
 use Rattle.text.specs.Text.{ascii}
-use Rattle.text.specs.Tests.{all, and-l, and-r, both}
+use Rattle.text.specs.Tests.{all, and-l, and-r, both, either}
 use Rattle.text.specs.Digits.{digit, decimal}
 use Rattle.text.specs.Digits.Laws.{decimal-all}
 use Rattle.names.specs.Names.{i386, x86-64, arm, arm64, ppc, mips, pe-x64, table, cfiName, peName, letterOf, arm64Name}
@@ -24,14 +24,12 @@ all-getD p [] r h k = k
 all-getD p (n ∷ ns) zero h k = and-l (p n) _ h
 all-getD p (n ∷ ns) (suc r) h k = all-getD p ns r (and-r (p n) _ h) k
 
-either : (t : Bool) (ns ms : List Bytes) → T (all registerOk ns) → T (all registerOk ms) → T (all registerOk (cond t ns ms))
-either true ns ms h k = h
-either false ns ms h k = k
-
 table-ok : (f : ℕ) → T (all registerOk (table f))
 unfolding table i386 x86-64 arm arm64 ppc mips
-table-ok f = either (eqb f 1) i386 _ tt (either (eqb f 2) x86-64 _ tt (either (eqb f 3) arm _ tt (either (eqb f 4) arm64 _ tt (either (eqb f 5) ppc _ tt
-    (either (eqb f 6) ppc _ tt (either (eqb f 7) mips _ tt (either (eqb f 8) mips _ tt (either (eqb f 9) arm64 [] tt tt))))))))
+table-ok f =
+    let by = either (all registerOk) in
+    by (eqb f 1) i386 _ tt (by (eqb f 2) x86-64 _ tt (by (eqb f 3) arm _ tt (by (eqb f 4) arm64 _ tt (by (eqb f 5) ppc _ tt
+    (by (eqb f 6) ppc _ tt (by (eqb f 7) mips _ tt (by (eqb f 8) mips _ tt (by (eqb f 9) arm64 [] tt tt))))))))
 
 pub cfi-ok : (f r : ℕ) → T (registerOk (cfiName f r))
 unfolding cfiName

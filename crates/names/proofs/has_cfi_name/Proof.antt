@@ -1,10 +1,9 @@
 -- `has_cfi_name`: for each family the test tells which entries of its list are names, by the computed test of `Tables`.
 use mathlib.Core.Path.{_∙_}
 use lib.Dec.{ltb}
-use Rattle.text.specs.Tests.{above}
 use Rattle.names.specs.Names.{cfiName, table, i386, x86-64, arm, arm64, mips}
 use Rattle.names.proofs.Tables.{around, around-out, table-tells}
-use borrow.Author.Tests.{ne-eqb}
+use borrow.Author.Tests.{ne-eqb, le-ltb}
 use native.Mathlib.Omega.{arith}
 use borrow.Author.Needs.{needs}
 use Rattle.names.proofs.has_cfi_name.Statement.{statement}
@@ -27,11 +26,11 @@ around-requires-3 c κs = search needs
 
 returns : tie.Need-returns
 unfolding cfiName table i386
-returns c = rw (c .match .keys1) (table-tells i386 (λ i. ltb i 50) tt (λ i h. above i 50 h) (c .before .args .register))
+returns c = rw (c .match .keys1) (table-tells i386 (λ i. ltb i 50) tt (λ i h. le-ltb i 50 h) (c .before .args .register))
 
 returns-2 : tie.Need-returns-2
 unfolding cfiName table x86-64
-returns-2 c = rw (c .match .keys2) (table-tells x86-64 (λ i. ltb i 67) tt (λ i h. above i 67 h) (c .before .args .register))
+returns-2 c = rw (c .match .keys2) (table-tells x86-64 (λ i. ltb i 67) tt (λ i h. le-ltb i 67 h) (c .before .args .register))
 
 returns-3 : tie.Need-returns-3
 unfolding cfiName table arm
@@ -55,11 +54,11 @@ returns-6 c = rw (c .before .match .keys6) (c .ppc-has-name2 .ensures)
 
 returns-7 : tie.Need-returns-7
 unfolding cfiName table mips
-returns-7 c = rw (c .match .keys7) (table-tells mips (λ i. ltb i 68) tt (λ i h. above i 68 h) (c .before .args .register))
+returns-7 c = rw (c .match .keys7) (table-tells mips (λ i. ltb i 68) tt (λ i h. le-ltb i 68 h) (c .before .args .register))
 
 returns-8 : tie.Need-returns-8
 unfolding cfiName table mips
-returns-8 c = rw (c .match .keys8) (table-tells mips (λ i. ltb i 68) tt (λ i h. above i 68 h) (c .before .args .register))
+returns-8 c = rw (c .match .keys8) (table-tells mips (λ i. ltb i 68) tt (λ i h. le-ltb i 68 h) (c .before .args .register))
 
 returns-9 : tie.Need-returns-9
 unfolding cfiName table arm64

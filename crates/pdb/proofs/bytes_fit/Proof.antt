@@ -1,10 +1,9 @@
 -- `bytes_fit`: the first i words fit just where `fit` says so.
 use mathlib.Core.Path.{_≡_, refl, sym, ap, _∙_}
 use mathlib.Core.Bool.{Bool, _&&_}
-use Prim.Native.Nat.{_≤_, _-_, _+_}
-use lib.ListN.{length}
+use Prim.Native.Nat.{_≤_, _-_}
 use Rattle.text.specs.Tests.{all}
-use Rattle.pdb.specs.Pdb.{word, wordsFrom, printable}
+use Rattle.pdb.specs.Pdb.{wordsFrom, printable}
 use Rattle.pdb.specs.Index.{bytes-more, past-end}
 use borrow.Author.Needs.{needs}
 use native.Mathlib.Omega.{arith}

@@ -1,6 +1,7 @@
 -- `counts_fit`: test by test.
 use borrow.Author.Tests.{le-leb, lt-leb}
-use Rattle.pdb.specs.Pdb.{word, countsFit}
+use Rattle.entry.specs.Entry.{word}
+use Rattle.pdb.specs.Pdb.{countsFit}
 use native.Mathlib.Omega.{arith}
 use borrow.Author.Needs.{needs}
 use Rattle.pdb.proofs.counts_fit.Statement.{statement}

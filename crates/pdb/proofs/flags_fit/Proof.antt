@@ -1,6 +1,7 @@
 -- `flags_fit`: test by test.
 use borrow.Author.Tests.{le-leb, lt-leb}
-use Rattle.pdb.specs.Pdb.{word, flagsFit}
+use Rattle.entry.specs.Entry.{word}
+use Rattle.pdb.specs.Pdb.{flagsFit}
 use native.Mathlib.Omega.{arith}
 use borrow.Author.Needs.{needs}
 use Rattle.pdb.proofs.flags_fit.Statement.{statement}

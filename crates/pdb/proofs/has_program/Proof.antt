@@ -1,7 +1,8 @@
 -- `has_program`: test by test.
 use mathlib.Core.Path.{sym, _∙_}
 use borrow.Author.Tests.{eq-eqb, ne-eqb}
-use Rattle.pdb.specs.Pdb.{word, hasProgram}
+use Rattle.entry.specs.Entry.{word}
+use Rattle.pdb.specs.Pdb.{hasProgram}
 use borrow.Author.Needs.{needs}
 use Rattle.pdb.proofs.has_program.Statement.{statement}
 use Rattle.pdb.proofs.has_program.Tie as tie

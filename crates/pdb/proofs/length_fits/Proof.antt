@@ -1,6 +1,7 @@
 -- `length_fits`: by whether there is a program.
 use mathlib.Core.Path.{sym, _∙_}
-use Rattle.pdb.specs.Pdb.{word, lengthFits}
+use Rattle.entry.specs.Entry.{word}
+use Rattle.pdb.specs.Pdb.{lengthFits}
 use borrow.Author.Needs.{needs}
 use Rattle.pdb.proofs.length_fits.Statement.{statement}
 use Rattle.pdb.proofs.length_fits.Tie as tie

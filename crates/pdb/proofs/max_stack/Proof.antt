@@ -1,7 +1,8 @@
 -- `max_stack`: by whether there is one.
 use mathlib.Core.Path.{sym, _∙_}
 use borrow.Author.Tests.{eq-eqb, ne-eqb}
-use Rattle.pdb.specs.Pdb.{word, maxStack}
+use Rattle.entry.specs.Entry.{word}
+use Rattle.pdb.specs.Pdb.{maxStack}
 use borrow.Author.Needs.{needs}
 use Rattle.pdb.proofs.max_stack.Statement.{statement}
 use Rattle.pdb.proofs.max_stack.Tie as tie

@@ -4,7 +4,8 @@ use mathlib.Core.Path.{_≡_, refl, sym, _∙_}
 use mathlib.Core.Bool.{true, false}
 use borrow.Author.Tests.{not-true, not-false}
 use Rattle.pdb.specs.Pdb.{startOf, rangeAt, ranges, rangeFits, apart, differ, rangesFit}
-use Rattle.pdb.specs.Index.{and-no, and-yes, fits-step}
+use Rattle.text.specs.Tests.{and-no, and-yes}
+use Rattle.pdb.specs.Index.{fits-step}
 use borrow.Author.Needs.{needs}
 use native.Mathlib.Omega.{arith}
 use Rattle.pdb.proofs.ranges_fit.Statement.{statement}

@@ -1,6 +1,7 @@
 -- `reach`: its two sums.
 use borrow.Author.Tests.{le-leb, lt-leb}
-use Rattle.pdb.specs.Pdb.{word, inReach}
+use Rattle.entry.specs.Entry.{word}
+use Rattle.pdb.specs.Pdb.{inReach}
 use Prim.Native.Nat.{_+_}
 use native.Mathlib.Omega.{arith}
 use borrow.Author.Needs.{needs}

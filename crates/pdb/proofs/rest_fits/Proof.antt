@@ -5,7 +5,8 @@ use mathlib.Core.Bool.{true, false}
 use lib.ListN.{length}
 use borrow.Author.Tests.{eq-eqb, ne-eqb, not-true, not-false}
 use Rattle.text.specs.Tests.{all}
-use Rattle.pdb.specs.Pdb.{word, prologs, codes, rangesFit, printable, restFits}
+use Rattle.entry.specs.Entry.{word}
+use Rattle.pdb.specs.Pdb.{prologs, codes, rangesFit, printable, restFits}
 use Rattle.pdb.specs.Index.{prologs-at, codes-at, program-at, counts-prologs, counts-codes, counts-length}
 use native.Mathlib.Omega.{arith}
 use borrow.Author.Needs.{needs}

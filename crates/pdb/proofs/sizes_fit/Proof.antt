@@ -1,6 +1,7 @@
 -- `sizes_fit`: test by test.
 use borrow.Author.Tests.{le-leb, lt-leb}
-use Rattle.pdb.specs.Pdb.{word, sizesFit}
+use Rattle.entry.specs.Entry.{word}
+use Rattle.pdb.specs.Pdb.{sizesFit}
 use native.Mathlib.Omega.{arith}
 use borrow.Author.Needs.{needs}
 use Rattle.pdb.proofs.sizes_fit.Statement.{statement}

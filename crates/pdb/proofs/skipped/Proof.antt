@@ -1,6 +1,7 @@
 -- `skipped`: by the code size, then by the last entry.
 use borrow.Author.Tests.{lt-ltb, le-ltb}
-use Rattle.pdb.specs.Pdb.{word, pdbSkipped}
+use Rattle.entry.specs.Entry.{word}
+use Rattle.pdb.specs.Pdb.{pdbSkipped}
 use native.Mathlib.Omega.{arith}
 use borrow.Author.Needs.{needs}
 use Rattle.pdb.proofs.skipped.Statement.{statement}

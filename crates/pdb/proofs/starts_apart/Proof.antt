@@ -4,8 +4,10 @@ use mathlib.Core.Path.{_≡_, refl, sym, ap, _∙_}
 use mathlib.Core.Bool.{not}
 use lib.Dec.{eqb}
 use borrow.Author.Tests.{eq-eqb, ne-eqb}
-use Rattle.pdb.specs.Pdb.{word, ranges, apart}
-use Rattle.pdb.specs.Index.{and-no, and-yes, apart-step}
+use Rattle.entry.specs.Entry.{word}
+use Rattle.pdb.specs.Pdb.{ranges, apart}
+use Rattle.text.specs.Tests.{and-no, and-yes}
+use Rattle.pdb.specs.Index.{apart-step}
 use borrow.Author.Needs.{needs}
 use native.Mathlib.Omega.{arith}
 use Rattle.pdb.proofs.starts_apart.Statement.{statement}

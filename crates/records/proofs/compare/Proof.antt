@@ -1,5 +1,5 @@
 -- `compare`: one test after the other; `check::same` is true just where the texts are equal.
-use mathlib.Core.Path.{sym, refl, _∙_}
+use mathlib.Core.Path.{sym, _∙_}
 use native.Mathlib.Omega.{arith}
 use lib.ListN.{length, take}
 use lib.Seq.{length-take-le}

@@ -9,11 +9,11 @@ use mathlib.Core.List.{List, [], _∷_, _++_}
 use lib.ListN.{length, length-append}
 use lib.Dec.{T, leb, eqb}
 use lib.Signed.{ltZ}
-use borrow.Author.Tests.{ltb-true}
+use borrow.Author.Tests.{ltb-true, lt-ltb, le-ltb}
 use lib.IntN.{ℤ, pos, negsuc, natAbs}
 use Rattle.text.specs.Text.{ascii, Put}
 use Rattle.text.specs.Text.Laws.{_⨾_}
-use Rattle.text.specs.Tests.{below, above, is-false, all, all-append, tests, at, both, and-l}
+use Rattle.text.specs.Tests.{is-false, all, all-append, tests, at, both, and-l}
 use Rattle.text.specs.Digits.{digit, digitsIn, digits, hex, decimal, signed, undigit, value, readHex, readDecimal, readSigned, Digits·open}
 
 -- ---- the equations of digits
@@ -21,11 +21,11 @@ use Rattle.text.specs.Digits.{digit, digitsIn, digits, hex, decimal, sig
 few : (b f n : ℕ) → n < b → digitsIn b f n ≡ digit n ∷ []
 unfolding digitsIn
 few b zero n h = refl
-few b (suc f) n h = rw (below n b h, digitsIn)
+few b (suc f) n h = rw (lt-ltb n b h, digitsIn)
 
 many : (b f n : ℕ) → b ≤ n → digitsIn b (suc f) n ≡ digitsIn b f (n / b) ++ (digit (n % b) ∷ [])
 unfolding digitsIn
-many b f n h = rw (above n b h, digitsIn)
+many b f n h = rw (le-ltb n b h, digitsIn)
 
 -- a bound that suffices does not matter
 bound : (b f g n : ℕ) → 1 < b → n ≤ f → n ≤ g → digitsIn b f n ≡ digitsIn b g n
@@ -68,8 +68,8 @@ digits-ind b P h one more n = go n n (le-refl n)
 undigit-digit : (d : ℕ) → d < 16 → undigit (digit d) ≡ d
 unfolding undigit digit
 undigit-digit d h = elim (decLt d 10) [
-  | yes k ↦ rw (below d 10 k, below (48 + d) 97 (omega arith)) (omega arith)
-  | no k ↦ rw (above d 10 (omega arith), above (87 + d) 97 (omega arith)) (omega arith)
+  | yes k ↦ rw (lt-ltb d 10 k, lt-ltb (48 + d) 97 (omega arith)) (omega arith)
+  | no k ↦ rw (le-ltb d 10 (omega arith), le-ltb (87 + d) 97 (omega arith)) (omega arith)
 ]
 
 value-snoc : (b a : ℕ) (xs : List ℕ) (d : ℕ) → value b a (xs ++ (d ∷ [])) ≡ value b a xs * b + undigit d
@@ -92,9 +92,6 @@ unfolding readDecimal decimal
 read-decimal n = value-digits 10 n (omega arith) (omega arith)
 
 -- ---- injective
-
-pub digits-injective : (b m n : ℕ) → 1 < b → b ≤ 16 → digits b m ≡ digits b n → m ≡ n
-digits-injective b m n h k e = sym (value-digits b m h k) ∙ ap (value b 0) e ∙ value-digits b n h k
 
 pub hex-injective : (m n : ℕ) → hex m ≡ hex n → m ≡ n
 hex-injective m n e = sym (read-hex m) ∙ ap readHex e ∙ read-hex n
@@ -132,18 +129,6 @@ hex-digits n = hex-all isHex n tt
 pub decimal-digits : (n : ℕ) → T (all isDecimal (decimal n))
 unfolding digit
 decimal-digits n = decimal-all isDecimal n tt
-
--- neither ' ' nor ':' nor '-' nor '\n'
-abbrev pub plain : ℕ → Bool
-plain c = not (eqb c 32) && not (eqb c 58) && not (eqb c 45) && not (eqb c 10)
-
-pub hex-plain : (n : ℕ) → T (all plain (hex n))
-unfolding digit
-hex-plain n = hex-all plain n tt
-
-pub decimal-plain : (n : ℕ) → T (all plain (decimal n))
-unfolding digit
-decimal-plain n = decimal-all plain n tt
 
 -- ---- at least one, and few
 

@@ -1,4 +1,5 @@
 -- `stacklines_translate`: the call's contract; the counts are stored where there is room (`exported`).
+use Rattle.translate.specs.Outcome.{outcome}
 use Rattle.translate.specs.Outcome.Laws.{exported, exported-none}
 use borrow.Author.Needs.{needs}
 use Rattle.translate.proofs.stacklines_translate.Statement.{statement}
@@ -17,7 +18,7 @@ returns : tie.Need-returns
 returns c =
     let translate = c .before .before .before .before .before .translate in
     let args = c .before .before .before .before .before .before .before .before .before .before .before .before .args in
-    exported-none (translate .ensures) (args .counts .now) (c .if1 .taken)
+    exported-none {o = outcome (args .book .now) (args .limit) (args .work .now) (args .text .now)} (translate .ensures) (args .counts .now) (c .if1 .taken)
 
 slice-write-counts : tie.Need-slice-write-counts
 slice-write-counts c = search needs
@@ -38,7 +39,7 @@ returns-2 : tie.Need-returns-2
 returns-2 c =
     let translate = c .before .before .before .before .before .translate in
     let args = c .before .before .before .before .before .before .before .before .before .before .before .before .args in
-    exported (translate .ensures) (args .counts .now) (c .if1 .left)
+    exported {o = outcome (args .book .now) (args .limit) (args .work .now) (args .text .now)} (translate .ensures) (args .counts .now) (c .if1 .left)
 
 pub stacklines-translate-spec : {M : Type 1} → statement M
 stacklines-translate-spec =

@@ -1,6 +1,7 @@
 -- `step`: the entry's number, 8, 9, or the copy, each by its law.
 use mathlib.Core.Path.{sym}
 use lib.Seq.{length-take-le}
+use Rattle.translate.specs.Outcome.{entryOf}
 use Rattle.translate.specs.Outcome.Laws.{refuses, too-long, no-room, copied}
 use native.Mathlib.Omega.{arith}
 use borrow.Author.Needs.{needs}
@@ -16,7 +17,7 @@ same-length c = search needs
 returns : tie.Need-returns
 returns c =
     let args = c .before .before .before .before .before .before .before .before .before .args in
-    refuses (c .before .before .before .before .process .ensures) (omega arith) (args .text .now) (args .used) (omega arith)
+    refuses {e = entryOf (args .kind) (args .limit) (args .last) (args .body .now)} (c .before .before .before .before .process .ensures) (omega arith) (args .text .now) (args .used) (omega arith)
     (omega arith) (c .if1 .taken)
 
 same-length-2 : tie.Need-same-length-2
@@ -25,7 +26,7 @@ same-length-2 c = search needs
 returns-2 : tie.Need-returns-2
 returns-2 c =
     let args = c .before .before .before .before .before .before .before .before .before .before .args in
-    too-long (c .before .before .before .before .before .process .ensures)
+    too-long {e = entryOf (args .kind) (args .limit) (args .last) (args .body .now)} (c .before .before .before .before .before .process .ensures)
     (omega arith) (args .text .now) (args .used) (omega arith) (omega arith) (c .before .if1 .left)
     (c .if2 .taken)
 
@@ -38,7 +39,7 @@ same-length-3 c = search needs
 returns-3 : tie.Need-returns-3
 returns-3 c =
     let args = c .before .before .before .before .before .before .before .before .before .before .before .args in
-    no-room (c .before .before .before .before .before .before .process .ensures)
+    no-room {e = entryOf (args .kind) (args .limit) (args .last) (args .body .now)} (c .before .before .before .before .before .before .process .ensures)
     (omega arith) (args .text .now) (args .used) (omega arith) (omega arith)
     (c .before .before .if1 .left) (c .before .if2 .left) (c .if3 .taken)
 
@@ -65,7 +66,7 @@ returns-4 c =
     let if2 = c .before .before .before .before .before .before .if2 in
     let if1 = c .before .before .before .before .before .before .before .if1 in
     let args = c .before .before .before .before .before .before .before .before .before .before .before .before .before .before .before .before .args in
-    copied (c .before .before .before .before .before .before .before .before .before .before .before .process .ensures)
+    copied {e = entryOf (args .kind) (args .limit) (args .last) (args .body .now)} (c .before .before .before .before .before .before .before .before .before .before .before .process .ensures)
     (omega arith) (args .text .now) (args .used) (omega arith) (omega arith) (if1 .left) (if2 .left)
     (if3 .left) _ _ (c .before .before .put-bytes .ensures)
 

@@ -1,6 +1,7 @@
 -- `info_fits`: one test for each range, then the operations.
 use borrow.Author.Tests.{lt-ltb, le-ltb, le-leb, lt-leb}
-use Rattle.x64.specs.X64.{word, infoFits}
+use Rattle.entry.specs.Entry.{word}
+use Rattle.x64.specs.X64.{infoFits}
 use Prim.Native.Nat.{_+_}
 use native.Mathlib.Omega.{arith}
 use borrow.Author.Needs.{needs}

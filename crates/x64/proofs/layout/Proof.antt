@@ -4,7 +4,8 @@ use mathlib.Core.Path.{_≡_, sym, _∙_}
 use mathlib.Core.Bool.{true}
 use borrow.Author.Tests.{not-true, not-false, le-leb, lt-leb}
 use Rattle.x64.specs.X64.{infoCount, infoFits, infosFit, x64Layout}
-use Rattle.x64.specs.Index.{and-no, and-yes, infos-fit-step, layout-is, count-small, info-bound}
+use Rattle.text.specs.Tests.{and-no, and-yes}
+use Rattle.x64.specs.Index.{infos-fit-step, layout-is, count-small, info-bound}
 use borrow.Author.Needs.{needs}
 use native.Mathlib.Omega.{arith}
 use Rattle.x64.proofs.layout.Statement.{statement}

@@ -2,8 +2,10 @@
 use Prim.Native.Nat.{_+_, _*_}
 use mathlib.Core.Path.{_≡_, refl, sym, _∙_}
 use borrow.Author.Tests.{not-true, not-false}
-use Rattle.x64.specs.X64.{word, opFits, opsFit}
-use Rattle.x64.specs.Index.{and-no, and-yes, ops-fit-step}
+use Rattle.entry.specs.Entry.{word}
+use Rattle.x64.specs.X64.{opFits, opsFit}
+use Rattle.text.specs.Tests.{and-no, and-yes}
+use Rattle.x64.specs.Index.{ops-fit-step}
 use borrow.Author.Needs.{needs}
 use native.Mathlib.Omega.{arith}
 use Rattle.x64.proofs.ops_fit.Statement.{statement}

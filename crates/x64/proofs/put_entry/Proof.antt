@@ -4,7 +4,8 @@ use mathlib.Core.Path.{ap, _∙_}
 use mathlib.Core.Bool.{Bool}
 use Rattle.text.specs.Text.Laws.{put-as}
 use Rattle.lines.specs.Lines.{Form, rule, cfa, ruleText, rulesText}
-use Rattle.x64.specs.X64.{word, chain, run, total, opCfa, opRules, cfaForm, anyMachine, raRules, ranRules, x64Text}
+use Rattle.entry.specs.Entry.{word}
+use Rattle.x64.specs.X64.{chain, run, total, opCfa, opRules, cfaForm, anyMachine, raRules, ranRules, x64Text}
 use Rattle.x64.specs.Scan.{scanStart, cfaOf, scan-cfa, scan-machine, scanned-small}
 use Rattle.x64.proofs.Rules.{put-line}
 use native.Mathlib.Omega.{arith}

@@ -4,7 +4,8 @@ use Rattle.text.specs.Text.Laws.{put-none}
 use Rattle.names.specs.Names.{peName}
 use Rattle.lines.specs.Lines.{rulesText}
 use Rattle.x64.specs.X64.{opRules}
-use Rattle.x64.proofs.Rules.{put-one, put-place}
+use Rattle.lines.specs.Lines.Laws.{put-one}
+use Rattle.x64.proofs.Rules.{put-place}
 use native.Mathlib.Omega.{arith}
 use borrow.Author.Needs.{needs}
 use Rattle.x64.proofs.put_op.Statement.{statement}

@@ -2,7 +2,7 @@
 use Rattle.text.specs.Text.Laws.{put-none}
 use Rattle.lines.specs.Lines.{rulesText}
 use Rattle.x64.specs.X64.{raRules}
-use Rattle.x64.proofs.Rules.{put-one}
+use Rattle.lines.specs.Lines.Laws.{put-one}
 use native.Mathlib.Omega.{arith}
 use borrow.Author.Needs.{needs}
 use Rattle.x64.proofs.put_ra.Statement.{statement}

@@ -8,7 +8,7 @@ use Rattle.text.specs.Text.{ascii}
 use Rattle.text.specs.Text.Laws.{put-as}
 use Rattle.lines.specs.Lines.{rule, atCfaMinus, ruleText}
 use Rattle.lines.specs.Rules.{ruleOf, ruleName, formOf}
-use Rattle.x64.proofs.Rules.{sub-none}
+use Rattle.lines.specs.Lines.Laws.{sub-none}
 use borrow.Author.Needs.{needs}
 use Rattle.x64.proofs.put_return.Statement.{statement}
 use Rattle.x64.proofs.put_return.Tie as tie

@@ -6,7 +6,7 @@ use Rattle.text.specs.Text.Laws.{put-as}
 use Rattle.names.specs.Names.{peName, pe-x64}
 use Rattle.lines.specs.Lines.{rule, cfa, registerPlus, ruleText}
 use Rattle.x64.specs.Scan.{cfaOf}
-use Rattle.x64.proofs.Rules.{sub-none}
+use Rattle.lines.specs.Lines.Laws.{sub-none}
 use borrow.Author.Needs.{needs}
 use Rattle.x64.proofs.put_scan.Statement.{statement}
 use Rattle.x64.proofs.put_scan.Tie as tie

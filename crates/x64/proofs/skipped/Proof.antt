@@ -3,8 +3,9 @@ use mathlib.Core.Path.{_≡_, sym, _∙_}
 use mathlib.Core.Bool.{true, false}
 use lib.Dec.{ltb}
 use borrow.Author.Tests.{lt-ltb, le-ltb}
-use Rattle.x64.specs.X64.{word, allZero, x64Skipped}
-use Rattle.x64.specs.Index.{or-yes, or-no}
+use Rattle.entry.specs.Entry.{word}
+use Rattle.x64.specs.X64.{allZero, x64Skipped}
+use Rattle.text.specs.Tests.{or-yes, or-no}
 use native.Mathlib.Omega.{arith}
 use borrow.Author.Needs.{needs}
 use Rattle.x64.proofs.skipped.Statement.{statement}

@@ -1,8 +1,10 @@
 -- `undecodable`: the infos left from a on decide, as long as none is found (`UndecodableLeft`).
 use Prim.Native.Nat.{min, _+_}
 use mathlib.Core.Path.{_≡_, sym, _∙_}
-use Rattle.x64.specs.X64.{word, infoCount, undecodableOps, undecodableInfos}
-use Rattle.x64.specs.Index.{or-yes, undecodable-step, count-small}
+use Rattle.entry.specs.Entry.{word}
+use Rattle.x64.specs.X64.{infoCount, undecodableOps, undecodableInfos}
+use Rattle.text.specs.Tests.{or-yes}
+use Rattle.x64.specs.Index.{undecodable-step, count-small}
 use Rattle.x64.proofs.Passes.{UndecodableLeft, undecodable-all, undecodable-fits, undecodable-turn}
 use borrow.Author.Needs.{needs}
 use native.Mathlib.Omega.{arith}

@@ -3,8 +3,10 @@ use Prim.Native.Nat.{_+_, _*_}
 use mathlib.Core.Path.{_≡_, refl, sym, _∙_}
 use lib.Dec.{eqb}
 use borrow.Author.Tests.{eq-eqb, ne-eqb}
-use Rattle.x64.specs.X64.{word, undecodableOps}
-use Rattle.x64.specs.Index.{or-no, or-yes, undecodable-ops-step}
+use Rattle.entry.specs.Entry.{word}
+use Rattle.x64.specs.X64.{undecodableOps}
+use Rattle.text.specs.Tests.{or-no, or-yes}
+use Rattle.x64.specs.Index.{undecodable-ops-step}
 use borrow.Author.Needs.{needs}
 use native.Mathlib.Omega.{arith}
 use Rattle.x64.proofs.undecodable_ops.Statement.{statement}

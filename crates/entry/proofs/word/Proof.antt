@@ -1,9 +1,9 @@
--- `word`: the word at i, or past the end the default.
+-- `word`: inside the words the one that stands there, and 0 past their end.
 use mathlib.Core.Path.{sym}
 use lib.ListN.{List·getD-eq-default}
 use borrow.Author.Needs.{needs}
-use Rattle.arm64.proofs.word.Statement.{statement}
-use Rattle.arm64.proofs.word.Tie as tie
+use Rattle.entry.proofs.word.Statement.{statement}
+use Rattle.entry.proofs.word.Tie as tie
 
 mul-result : tie.Need-mul-result
 mul-result c = search needs
@@ -15,7 +15,7 @@ returns : tie.Need-returns
 returns c = search needs
 
 returns-2 : tie.Need-returns-2
-returns-2 c = sym (List·getD-eq-default (c .before .args .body .now) 0 (search needs))
+returns-2 c = sym (List·getD-eq-default (c .before .args .words .now) 0 (search needs))
 
 pub word-spec : {M : Type 1} → statement M
 word-spec = tie.close (tie.spec mul-result shared-slice-read-result returns returns-2)
