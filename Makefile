@@ -9,7 +9,7 @@ help:
 	@echo 'make run BOOK=file        print the STACK lines of a book, as specimens/first.book'
 	@echo 'make compare A=file B=file   say whether two books have the same records'
 	@echo 'make test                 everything: the proofs, the must-fail edits, the programs, the tests beside them'
-	@echo 'make lib                  the archive to link from C, target/staticlib/libtranslate.a; its header is bindings/c/stacklines.h'
+	@echo 'make lib [PREFIX=dir]     the archive to link from C, target/staticlib/libtranslate.a, its header is bindings/c/stacklines.h; with PREFIX also installed'
 	@echo 'make install PREFIX=dir   header, archive and pkg-config file to dir/include and dir/lib, once make lib has made the archive'
 	@echo 'make book                 the tool that makes books from readable text and shows them, target/book; tools/book/README.md'
 	@echo 'make fuzz [SEED=] [N=]    the archive against the model and the Rust on N books, from a fresh seed unless one is given'
@@ -45,6 +45,7 @@ lib:
 	@mkdir -p target
 	@rt staticlib translate >target/lib.log 2>&1 || { cat target/lib.log >&2; exit 1; }
 	@echo target/staticlib/libtranslate.a
+	@$(if $(findstring command line,$(origin PREFIX)),$(MAKE) -s install)
 
 install:
 	@test -f target/staticlib/libtranslate.a || { echo 'make lib first' >&2; exit 2; }
