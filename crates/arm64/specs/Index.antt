@@ -10,12 +10,12 @@ use lib.IntN.{subℕ}
 use lib.Dec.{T, ltb, leb, eqb, ltb→lt, leb→le}
 use Rattle.text.specs.Tests.{and-l, and-r, one-less}
 use Rattle.lines.specs.Reach.{inside}
-use Rattle.entry.specs.declared.Judged.the-variants.{Refuse, Skip, Write}
+use Rattle.entry.specs.declared.Judged.the-variants.{Write}
 use Rattle.arm64.specs.declared.Op.{Op}
 use Rattle.arm64.specs.declared.Op.the-variants.{AllocStack, SaveReg, SaveRegPreindexed, SaveRegPair, SaveRegPairPreindexed, SaveLrPair, SaveNext, Other, End, Undecodable}
 use Rattle.arm64.specs.declared.Saved.{Saved}
 use Rattle.arm64.specs.declared.BreakpadEncoder.{BreakpadEncoder}
-use Rattle.entry.specs.Entry.{word}
+use Rattle.entry.specs.Entry.{word, only-written}
 use Rattle.arm64.specs.Arm64.{opOf, counting, opCount, ops, width, above, startEncoder, began, grown, single, double, remembered, stepped, savedFits, fits, valueOf, inReach, opFits, opsFit, armLayout, undecodable, armJudged}
 
 -- the operation whose words start at i
@@ -238,11 +238,4 @@ line-bounds address e o s h = bounds e o s (fitting address (valueOf o) (stepped
 
 pub written : (ws : List ℕ) → armJudged ws ≡ Write → T (armLayout ws) × T (inReach (word ws 0) 0 startEncoder (ops ws))
 unfolding armJudged
-written ws h = go (armLayout ws) (undecodable ws 3 (opCount ws)) (inReach (word ws 0) 0 startEncoder (ops ws)) refl refl h
-  where
-    go : (a b c : Bool) → armLayout ws ≡ a → inReach (word ws 0) 0 startEncoder (ops ws) ≡ c → cond a (cond b Skip (cond c Write (Refuse 6))) (Refuse 4) ≡ Write
-        → T (armLayout ws) × T (inReach (word ws 0) 0 startEncoder (ops ws))
-    go true false true p q k = (rw p tt, rw q tt)
-    go true false false p q k = let z : _≡_ {A = ℕ} 0 1 = cc in absurd (omega arith)
-    go true true c p q k = let z : _≡_ {A = ℕ} 0 1 = cc in absurd (omega arith)
-    go false b c p q k = let z : _≡_ {A = ℕ} 0 1 = cc in absurd (omega arith)
+written ws h = only-written (armLayout ws) (undecodable ws 3 (opCount ws)) (inReach (word ws 0) 0 startEncoder (ops ws)) 6 h

@@ -5,14 +5,14 @@ use native.Mathlib.Omega.{arith}
 use native.Mathlib.Nat.{add-assoc}
 use mathlib.Core.Bool.{Bool, true, false, cond, _&&_, _||_}
 use mathlib.Core.List.{List, [], _∷_, _++_, append-assoc, reverse, reverse-cons}
-use borrow.Author.Tests.{le-leb, eqb-true, lt-ltb}
-use lib.Dec.{T, ltb, leb, eqb, ltb→lt, leb→le}
+use borrow.Author.Tests.{le-leb, lt-ltb}
+use lib.Dec.{T, ltb, leb, eqb, ltb→lt, leb→le, eqb→eq}
 use Rattle.lines.specs.Reach.{inside, difference-inside}
 use Rattle.text.specs.Tests.{and-l, and-r, both, all, all-append, one-less, either}
-use Rattle.entry.specs.declared.Judged.the-variants.{Refuse, Skip, Write}
+use Rattle.entry.specs.declared.Judged.the-variants.{Write}
 use Rattle.x64.specs.declared.Op.{Op}
 use Rattle.x64.specs.declared.Op.the-variants.{PushNonVolatile, Alloc, SaveRsp, SaveFp, SetFpRegister, PushMachineFrame, Other, Undecodable}
-use Rattle.entry.specs.Entry.{word}
+use Rattle.entry.specs.Entry.{word, only-written}
 use Rattle.x64.specs.X64.{opOf, stored, infos, inOrder, infoCount, chain, growthOf, valueOf, run, opFits, opsFit, infoFits, infosFit, x64Layout, undecodableOps, undecodableInfos, printed, inReach, setCount, x64Reach, x64Skipped, x64Judged}
 
 -- ---- operations
@@ -221,11 +221,6 @@ reach-none limit ws l h = rw (chain-reach ws l) (go (ltb limit (infoCount ws)) (
 -- an entry that is written keeps the layout and is in reach
 pub written : (limit : ℕ) (ws : List ℕ) → x64Judged limit ws ≡ Write → T (x64Layout ws) × T (reaches 8 (chain ws))
 unfolding x64Judged
-written limit ws h = go (x64Layout ws) (x64Skipped limit ws) (eqb (x64Reach limit ws) 0) refl refl h
-  where
-    go : (a b c : Bool) → x64Layout ws ≡ a → eqb (x64Reach limit ws) 0 ≡ c → cond a (cond b Skip (cond c Write (Refuse (x64Reach limit ws)))) (Refuse 4) ≡ Write
-        → T (x64Layout ws) × T (reaches 8 (chain ws))
-    go true false true p q k = (rw p tt, reach-none limit ws (rw p tt) (eqb-true (x64Reach limit ws) 0 q))
-    go true false false p q k = let z : _≡_ {A = ℕ} 0 1 = cc in absurd (omega arith)
-    go true true c p q k = let z : _≡_ {A = ℕ} 0 1 = cc in absurd (omega arith)
-    go false b c p q k = let z : _≡_ {A = ℕ} 0 1 = cc in absurd (omega arith)
+written limit ws h =
+    let w = only-written (x64Layout ws) (x64Skipped limit ws) (eqb (x64Reach limit ws) 0) (x64Reach limit ws) h in
+    (w .0, reach-none limit ws (w .0) (eqb→eq (x64Reach limit ws) 0 (w .1)))
