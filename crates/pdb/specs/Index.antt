@@ -10,10 +10,10 @@ use lib.ListN.{length}
 use lib.Dec.{T, leb, eqb, leb→le, eqb→eq}
 use Rattle.text.specs.Tests.{and-l, and-r, both, all, one-less}
 use Rattle.lines.specs.declared.StackInfo.{StackInfo}
-use Rattle.entry.specs.declared.Judged.the-variants.{Refuse, Skip, Write}
+use Rattle.entry.specs.declared.Judged.the-variants.{Write}
 use Rattle.entry.specs.declared.Last.{Last}
 use Rattle.pdb.specs.declared.Range.{Range}
-use Rattle.entry.specs.Entry.{word}
+use Rattle.entry.specs.Entry.{word, only-written}
 use Rattle.pdb.specs.Pdb.{startOf, endOf, rangeAt, ranges, wordsFrom, prologs, codes, program, sizesFit, flagsFit, hasProgram, lengthFits, countsFit, rangeFits, apart, differ, rangesFit, printable, restFits, pdbLayout, pdbSkipped, inReach, lead, trim, infoText, infosText, contiguous, pdbJudged}
 use Rattle.pdb.specs.declared.Found.{Found}
 use Rattle.pdb.specs.Sorted.{step, found}
@@ -183,11 +183,7 @@ fits-differ rs h = and-r (all rangeFits rs) _ h
 -- an entry that is written keeps the layout
 pub written : (last : Last) (ws : List ℕ) → pdbJudged last ws ≡ Write → T (pdbLayout ws)
 unfolding pdbJudged
-written last ws h = go (pdbLayout ws) (pdbSkipped last ws) (inReach ws) h
-  where
-    go : (a b c : Bool) → cond a (cond b Skip (cond c Write (Refuse 6))) (Refuse 4) ≡ Write → T a
-    go true b c k = tt
-    go false b c k = let z : _≡_ {A = ℕ} 0 1 = cc in absurd (omega arith)
+written last ws h = let w = only-written (pdbLayout ws) (pdbSkipped last ws) (inReach ws) 6 h in w .0
 
 -- ---- one prolog and one code range
 

@@ -4,8 +4,8 @@ use Prim.Native.Nat.{ℕ, zero, suc, _+_, _-_, _*_, _^_, _≤_, _<_}
 use native.Mathlib.Omega.{arith}
 use native.Mathlib.Nat.{add-assoc}
 use mathlib.Core.Bool.{Bool, true, false, cond, _&&_, _||_}
-use mathlib.Core.List.{List, [], _∷_, _++_, append-assoc}
-use borrow.Author.Tests.{le-leb, eqb-true, lt-ltb}
+use mathlib.Core.List.{List, [], _∷_, _++_, append-assoc, reverse, reverse-cons}
+use borrow.Author.Tests.{le-leb, lt-ltb}
 use lib.Dec.{T, ltb, leb, eqb, ltb→lt, leb→le}
 use Rattle.lines.specs.Reach.{inside, difference-inside}
 use Rattle.text.specs.Tests.{and-l, and-r, both, all, all-append, one-less, either}
@@ -14,7 +14,7 @@ use Rattle.entry.specs.declared.Judged.the-variants.{Refuse, Skip, Write}
 use Rattle.x64.specs.declared.Op.{Op}
 use Rattle.x64.specs.declared.Op.the-variants.{PushNonVolatile, Alloc, SaveRsp, SaveFp, SetFpRegister, PushMachineFrame, Other, Undecodable}
 use Rattle.entry.specs.Entry.{word}
-use Rattle.x64.specs.X64.{opOf, stored, infos, backwards, inOrder, infoCount, chain, growthOf, valueOf, run, opFits, opsFit, infoFits, infosFit, x64Layout, undecodableOps, undecodableInfos, printed, inReach, setCount, x64Reach, x64Skipped, x64Judged}
+use Rattle.x64.specs.X64.{opOf, stored, infos, inOrder, infoCount, chain, growthOf, valueOf, run, opFits, opsFit, infoFits, infosFit, x64Layout, undecodableOps, undecodableInfos, printed, inReach, setCount, x64Reach, x64Skipped, x64Judged}
 
 -- ---- operations
 
@@ -47,11 +47,11 @@ last-first ws f o a zero = let e : a + 3 * 0 ≡ a = omega arith in rw e
 last-first ws f o a (suc n) = let e : a + 3 * suc n ≡ a + 3 + 3 * n = omega arith in
     rw e (ap (λ (l : List Op). opAt ws f o (a + 3 + 3 * n) ∷ l) (last-first ws f o a n))
 
-pub ops-stored : (ws : List ℕ) (f o a n : ℕ) → backwards (stored ws f o a n) ≡ opsRun ws f o a n
-unfolding stored backwards opsRun opAt
+pub ops-stored : (ws : List ℕ) (f o a n : ℕ) → reverse (stored ws f o a n) ≡ opsRun ws f o a n
+unfolding stored opsRun opAt
 ops-stored ws f o a zero = refl
 ops-stored ws f o a (suc n) =
-    ap (λ (l : List Op). l ++ (opAt ws f o a ∷ [])) (ops-stored ws f o (a + 3) n) ∙ sym (last-first ws f o a n)
+    reverse-cons (opAt ws f o a) (stored ws f o (a + 3) n) ∙ ap (λ (l : List Op). l ++ (opAt ws f o a ∷ [])) (ops-stored ws f o (a + 3) n) ∙ sym (last-first ws f o a n)
 
 infos-run : (ws : List ℕ) (m a : ℕ) → inOrder (infos ws m a) ≡ chainFrom ws m a
 unfolding infos inOrder chainFrom

@@ -2,7 +2,7 @@
 use mathlib.Core.Path.{_≡_, refl, sym, ap, _∙_}
 use Prim.Native.Nat.{ℕ, _+_, _-_, _^_, _≤_, _<_}
 use native.Mathlib.Omega.{arith}
-use mathlib.Core.Bool.{Bool, true, false, not, cond, _&&_, _||_}
+use mathlib.Core.Bool.{Bool, true, false, not, cond, _&&_, _||_, or-true, or-false}
 use mathlib.Core.List.{List, [], _∷_, _++_}
 use lib.IntN.{pos, subℕ}
 use lib.Dec.{T, ltb, ltb→lt}
@@ -145,10 +145,6 @@ scan-ind P none more s (o ∷ os) h r =
     (scan-ind P none more (advance s o (s .total + growthOf o)) os (advance-lost s o (s .total + growthOf o) ∙ h)
     (rw (advance-total s o) (and-r (within (s .total) o) _ r))))
 
-or-true : (a : Bool) → (a || true) ≡ true
-or-true true = refl
-or-true false = refl
-
 advance-machine : (s : Scan) (o : Op) (S : ℕ) (b : Bool) → (advance s o S .machine || b) ≡ (s .machine || (isMachine o || b))
 unfolding advance grown framed machined isMachine
 advance-machine s (PushNonVolatile r) S b = refl
@@ -188,10 +184,6 @@ advance-again s (SetFpRegister f o) S n = elim (s .set) as (λ t. ((t || s .twic
 advance-again s (PushMachineFrame e) S n = let e : 0 + n ≡ n = omega arith in rw e
 advance-again s Other S n = let e : 0 + n ≡ n = omega arith in rw e
 advance-again s Undecodable S n = let e : 0 + n ≡ n = omega arith in rw e
-
-or-false : (a : Bool) → (a || false) ≡ a
-or-false true = refl
-or-false false = refl
 
 module _ (os : List Op) (r : T (reaches 8 os)) where
   pub scan-machine : scanned scanStart os .machine ≡ anyMachine os

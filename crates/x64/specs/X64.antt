@@ -2,7 +2,7 @@
 -- A body's words are ws; a word that is missing reads 0.
 use Prim.Native.Nat.{ℕ, zero, suc, min, _+_, _-_, _*_, _^_}
 use mathlib.Core.Bool.{Bool, true, false, cond, _&&_, _||_}
-use mathlib.Core.List.{List, [], _∷_, _++_}
+use mathlib.Core.List.{List, [], _∷_, _++_, reverse}
 use lib.ListN.{length}
 use lib.IntN.{ℤ, pos, subℕ}
 use lib.Dec.{ltb, leb, eqb}
@@ -36,14 +36,10 @@ unfoldable pub infos : List ℕ → ℕ → ℕ → List (List Op)
 infos ws zero a = []
 infos ws (suc m) a = stored ws (word ws a) (word ws (a + 1)) (a + 3) (word ws (a + 2)) ∷ infos ws m (a + 3 + 3 * word ws (a + 2))
 
-unfoldable pub backwards : List Op → List Op
-backwards [] = []
-backwards (o ∷ os) = backwards os ++ (o ∷ [])
-
 -- the order in which a chain runs: infos first to last, each backwards
 unfoldable pub inOrder : List (List Op) → List Op
 inOrder [] = []
-inOrder (os ∷ rest) = backwards os ++ inOrder rest
+inOrder (os ∷ rest) = reverse os ++ inOrder rest
 
 abbrev pub infoCount : List ℕ → ℕ
 infoCount ws = word ws 3
@@ -226,5 +222,5 @@ x64Entry limit last ws = comesTo (x64Judged limit ws) (x64Text ws) last last
 
 -- what to unfold where x64 entries are to compute
 unfoldable pub X64·open : Type 0
-unfolding Lines·open peName pe-x64 opOf stored infos backwards inOrder chain growthOf valueOf machineRules opRules opCfa isMachine anyMachine run total cfaForm raRules ranRules x64Text opFits opsFit infoFits infosFit x64Layout allZero undecodableOps undecodableInfos x64Skipped inside printed inReach isSet setCount x64Reach x64Judged x64Entry
+unfolding Lines·open peName pe-x64 opOf stored infos inOrder chain growthOf valueOf machineRules opRules opCfa isMachine anyMachine run total cfaForm raRules ranRules x64Text opFits opsFit infoFits infosFit x64Layout allZero undecodableOps undecodableInfos x64Skipped inside printed inReach isSet setCount x64Reach x64Judged x64Entry
 X64·open = Unit {0}

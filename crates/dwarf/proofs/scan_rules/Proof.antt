@@ -28,17 +28,18 @@ rule-at-requires c κs = omega (arith, c .before .loop .inv .0 .rules .at)
 place-requires : tie.Need-place-requires Inv-loop μ-loop
 place-requires c κs = search needs
 
-mul-both : tie.Need-mul-both Inv-loop μ-loop
-mul-both c = record { fits = omega (arith, rules-place (c .before .before .before .before .before .before .loop .inv .0 .rules) (search needs) (c .before .before .before .before .rule-at .ensures) (c .before .before .before .before .before .before .before .before .pre .2) (search needs) (c .place .ensures)) }
-
+-- the place lies within the arrays
 element-copy-out-both : tie.Need-element-copy-out-both Inv-loop μ-loop
-element-copy-out-both c = omega (arith, rules-place (c .before .before .before .before .before .before .loop .inv .0 .rules) (search needs) (c .before .before .before .before .rule-at .ensures) (c .before .before .before .before .before .before .before .before .pre .2) (search needs) (c .place .ensures))
+element-copy-out-both c = rules-place (c .before .before .before .before .before .before .loop .inv .0 .rules) (search needs) (c .before .before .before .before .rule-at .ensures) (c .before .before .before .before .before .before .before .before .pre .2) (search needs) (c .place .ensures)
+
+mul-both : tie.Need-mul-both Inv-loop μ-loop
+mul-both c = record { fits = omega (arith, element-copy-out-both c) }
 
 mul-both-2 : tie.Need-mul-both-2 Inv-loop μ-loop
-mul-both-2 c = record { fits = omega (arith, rules-place (c .before .before .before .before .before .before .before .before .loop .inv .0 .rules) (search needs) (c .before .before .before .before .before .before .rule-at .ensures) (c .before .before .before .before .before .before .before .before .before .before .pre .2) (search needs) (c .before .before .place .ensures)) }
+mul-both-2 c = record { fits = omega (arith, element-copy-out-both (c .before .before)) }
 
 element-copy-out-both-2 : tie.Need-element-copy-out-both-2 Inv-loop μ-loop
-element-copy-out-both-2 c = omega (arith, rules-place (c .before .before .before .before .before .before .before .before .loop .inv .0 .rules) (search needs) (c .before .before .before .before .before .before .rule-at .ensures) (c .before .before .before .before .before .before .before .before .before .before .pre .2) (search needs) (c .before .before .place .ensures))
+element-copy-out-both-2 c = element-copy-out-both (c .before .before)
 
 both-requires : tie.Need-both-requires Inv-loop μ-loop
 both-requires c κs = search needs
@@ -47,22 +48,22 @@ both-requires-2 : tie.Need-both-requires-2 Inv-loop μ-loop
 both-requires-2 c κs = search needs
 
 mul-seen : tie.Need-mul-seen Inv-loop μ-loop
-mul-seen c = record { fits = omega (arith, rules-place (c .before .before .before .before .before .before .before .before .before .before .before .before .loop .inv .0 .rules) (search needs) (c .before .before .before .before .before .before .before .before .before .before .rule-at .ensures) (c .before .before .before .before .before .before .before .before .before .before .before .before .before .before .pre .2) (search needs) (c .before .before .before .before .before .before .place .ensures)) }
+mul-seen c = record { fits = omega (arith, element-copy-out-both (c .before .before .before .before .before .before)) }
 
 element-write-seen : tie.Need-element-write-seen Inv-loop μ-loop
-element-write-seen c = omega (arith, rules-place (c .before .before .before .before .before .before .before .before .before .before .before .before .loop .inv .0 .rules) (search needs) (c .before .before .before .before .before .before .before .before .before .before .rule-at .ensures) (c .before .before .before .before .before .before .before .before .before .before .before .before .before .before .pre .2) (search needs) (c .before .before .before .before .before .before .place .ensures))
+element-write-seen c = element-copy-out-both (c .before .before .before .before .before .before)
 
 mul-seen-2 : tie.Need-mul-seen-2 Inv-loop μ-loop
-mul-seen-2 c = record { fits = omega (arith, rules-place (c .before .before .before .before .before .before .before .before .before .before .before .before .loop .inv .0 .rules) (search needs) (c .before .before .before .before .before .before .before .before .before .before .rule-at .ensures) (c .before .before .before .before .before .before .before .before .before .before .before .before .before .before .pre .2) (search needs) (c .before .before .before .before .before .before .place .ensures)) }
+mul-seen-2 c = record { fits = omega (arith, element-copy-out-both (c .before .before .before .before .before .before)) }
 
 element-write-seen-2 : tie.Need-element-write-seen-2 Inv-loop μ-loop
-element-write-seen-2 c = omega (arith, rules-place (c .before .before .before .before .before .before .before .before .before .before .before .before .loop .inv .0 .rules) (search needs) (c .before .before .before .before .before .before .before .before .before .before .rule-at .ensures) (c .before .before .before .before .before .before .before .before .before .before .before .before .before .before .pre .2) (search needs) (c .before .before .before .before .before .before .place .ensures))
+element-write-seen-2 c = element-copy-out-both (c .before .before .before .before .before .before)
 
 mul-seen-3 : tie.Need-mul-seen-3 Inv-loop μ-loop
-mul-seen-3 c = record { fits = omega (arith, rules-place (c .before .before .before .before .before .before .before .before .before .before .before .before .loop .inv .0 .rules) (search needs) (c .before .before .before .before .before .before .before .before .before .before .rule-at .ensures) (c .before .before .before .before .before .before .before .before .before .before .before .before .before .before .pre .2) (search needs) (c .before .before .before .before .before .before .place .ensures)) }
+mul-seen-3 c = record { fits = omega (arith, element-copy-out-both (c .before .before .before .before .before .before)) }
 
 element-write-seen-3 : tie.Need-element-write-seen-3 Inv-loop μ-loop
-element-write-seen-3 c = omega (arith, rules-place (c .before .before .before .before .before .before .before .before .before .before .before .before .loop .inv .0 .rules) (search needs) (c .before .before .before .before .before .before .before .before .before .before .rule-at .ensures) (c .before .before .before .before .before .before .before .before .before .before .before .before .before .before .pre .2) (search needs) (c .before .before .before .before .before .before .place .ensures))
+element-write-seen-3 c = element-copy-out-both (c .before .before .before .before .before .before)
 
 count-behind-requires : tie.Need-count-behind-requires Inv-loop μ-loop
 count-behind-requires c κs = omega (arith, c .before .before .before .before .before .before .before .before .before .before .before .before .loop .inv .0 .rules .few)
