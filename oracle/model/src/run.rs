@@ -1,5 +1,8 @@
 //! What the comparing programs share: the words of the command, the counts, the coverage table and the last line.
 
+use crate::gen::{self, Case};
+use crate::rng::Rng;
+use crate::shrink::shrink;
 use crate::{Tally, ALL_KINDS};
 
 /// Books that are shown where something differs.
@@ -57,5 +60,28 @@ impl Run {
         }
         println!("{} passed, {} failed", self.passed, self.failed);
         std::process::exit(i32::from(self.failed > 0));
+    }
+}
+
+/// Compares on random books, as the words of the command say, and ends the program: `found` says what differs on a case. A book
+/// that differs is made small before it is shown.
+pub fn random_books(found: impl Fn(&Case, &mut Tally) -> Vec<String>, due: &[&[&str]]) -> ! {
+    let words = arguments();
+    let mut rng = Rng::new(words.seed);
+    let mut run = Run::default();
+    for _ in 0..words.count {
+        let case = gen::case(&mut rng, &words.kinds);
+        let differs = !found(&case, &mut run.tally).is_empty();
+        run.compared(differs, || show(&case, &found));
+    }
+    run.end(&words, due)
+}
+
+fn show(case: &Case, found: &impl Fn(&Case, &mut Tally) -> Vec<String>) {
+    let with = |book: &[u32]| Case { book: book.to_vec(), ..case.clone() };
+    let small = with(&shrink(&case.book, &|book| !found(&with(book), &mut Tally::default()).is_empty()));
+    println!("{small:?}");
+    for line in found(&small, &mut Tally::default()) {
+        println!("    {line}");
     }
 }
