@@ -22,6 +22,7 @@ use Rattle.arm64.specs.declared.BreakpadEncoder.{BreakpadEncoder}
 
 -- ---- operations from words
 
+-- kinds 1 to 10 (8 other)
 unfoldable pub opOf : ℕ → ℕ → ℕ → ℕ → Op
 opOf k l r v =
     cond (eqb k 1) (AllocStack v) (cond (eqb k 2) (SaveReg l r v) (cond (eqb k 3) (SaveRegPreindexed l r v) (cond (eqb k 4) (SaveRegPair l r v)
@@ -32,6 +33,7 @@ unfoldable pub counting : List ℕ → ℕ → ℕ → List Op
 counting ws a zero = []
 counting ws a (suc n) = cond (eqb (word ws a) 9) [] (opOf (word ws a) (word ws (a + 1)) (word ws (a + 2)) (word ws (a + 3)) ∷ counting ws (a + 4) n)
 
+-- word 2: the operation count
 abbrev pub opCount : List ℕ → ℕ
 opCount ws = word ws 2
 
@@ -49,6 +51,7 @@ width l = cond (ltb l 2) 8 16
 unfoldable pub above : Saved → Saved
 above p = record { letter = p .letter; register = p .register + 1; a = p .a + width (p .letter); b = p .b }
 
+-- a register with its place a - b
 abbrev pub saved : ℕ → ℕ → ℕ → ℕ → Saved
 saved l r x y = record { letter = l; register = r; a = x; b = y }
 
@@ -130,6 +133,7 @@ remembered e = record {
   «ra_written» = e .«ra_written»;
 }
 
+-- a pair is the last pair
 abbrev pub pair : BreakpadEncoder → Saved → BreakpadEncoder
 pair e p = remembered (double e p (above p))
 
@@ -148,15 +152,19 @@ stepped e Undecodable = began e
 
 -- ---- the lines
 
+-- what stands at CFA + place
 unfoldable pub savedRule : Saved → Rule
 savedRule p = rule (arm64Name (p .letter) (p .register)) (atCfaPlus (subℕ (p .a) (p .b)))
 
+-- " .cfa: .sp T +"
 unfoldable pub cfaRule : ℕ → Rule
 cfaRule T = rule cfa (registerPlus (ascii ".sp") (pos T))
 
+-- .ra where x30 lies
 unfoldable pub raRule : Saved → Rule
 raRule p = rule (ascii ".ra") (atCfaPlus (subℕ (p .a) (p .b)))
 
+-- a rule that may be there
 abbrev pub given : Bool → Rule → List Rule
 given t r = cond t (r ∷ []) []
 
@@ -181,10 +189,12 @@ unfoldable pub armLine : ℕ → ℕ → ℕ → List Rule → Line
 armLine a z zero rs = init a z (rs ++ defaults rs)
 armLine a z (suc i) rs = later (a + 4 * suc i) rs
 
+-- line i from the state before it
 unfoldable pub run : ℕ → ℕ → ℕ → BreakpadEncoder → List Op → List Line
 run a z i e [] = []
 run a z i e (o ∷ os) = armLine a z i (armRules (stepped e o)) ∷ run a z (suc i) (stepped e o) os
 
+-- the lines, with six spaces
 unfoldable pub armText : List ℕ → List ℕ
 armText ws = render true (run (word ws 0) (word ws 1) 0 startEncoder (ops ws))
 
@@ -199,17 +209,20 @@ unfoldable pub opsFit : List ℕ → ℕ → ℕ → Bool
 opsFit ws a zero = eqb a (length ws)
 opsFit ws a (suc n) = opFits (word ws a) (word ws (a + 2)) && opsFit ws (a + 4) n
 
+-- at most 1,024 operations
 unfoldable pub armLayout : List ℕ → Bool
 armLayout ws = leb (opCount ws) 1024 && opsFit ws 3 (opCount ws)
 
 -- ---- skipping: an undecodable one, kind 10, before the first end, kind 9, of n operations from word a on
 
+-- such an operation skips the entry
 unfoldable pub undecodable : List ℕ → ℕ → ℕ → Bool
 undecodable ws a zero = false
 undecodable ws a (suc n) = cond (eqb (word ws a) 9) false (eqb (word ws a) 10 || undecodable ws (a + 4) n)
 
 -- ---- refusal 6
 
+-- the value that an operation uses
 unfoldable pub valueOf : Op → ℕ
 valueOf (AllocStack v) = v
 valueOf (SaveReg l r v) = v
@@ -231,16 +244,19 @@ unfoldable pub fits : ℕ → ℕ → BreakpadEncoder → Bool
 fits address v e =
     ltb v (2 ^ 31) && (inside (pos (e .«stack_size»)) && (savedFits (e .one) (e .first) && (savedFits (e .two) (e .second) && ltb address (2 ^ 32))))
 
+-- every line is in reach
 unfoldable pub inReach : ℕ → ℕ → BreakpadEncoder → List Op → Bool
 inReach a i e [] = true
 inReach a i e (o ∷ os) = fits (a + 4 * i) (valueOf o) (stepped e o) && inReach a (suc i) (stepped e o) os
 
 -- ---- one entry: 4, skipping, 6
 
+-- 4, skipping, then 6
 unfoldable pub armJudged : List ℕ → Judged
 armJudged ws =
     cond (armLayout ws) (cond (undecodable ws 3 (opCount ws)) Skip (cond (inReach (word ws 0) 0 startEncoder (ops ws)) Write (Refuse 6))) (Refuse 4)
 
+-- ARM64 passes on what was left to it
 unfoldable pub armEntry : Last → List ℕ → Entry
 armEntry last ws = comesTo (armJudged ws) (armText ws) last last
 

@@ -11,9 +11,11 @@ use lib.Seq.{drop-drop, drop-length}
 use lib.Dec.{eqb, leb}
 use borrow.Author.Tests.{leb-true, eqb-true}
 
+-- word 0: the kind
 unfoldable pub kind : List ℕ → ℕ
 kind b = getD b 0 0
 
+-- word 1: the count
 unfoldable pub count : List ℕ → ℕ
 count b = getD b 1 0
 
@@ -21,6 +23,7 @@ count b = getD b 1 0
 unfoldable pub startOf : List ℕ → ℕ → ℕ
 startOf b i = getD b (2 + 2 * i) 0
 
+-- pair i's second word: the body's length
 unfoldable pub sizeOf : List ℕ → ℕ → ℕ
 sizeOf b i = getD b (3 + 2 * i) 0
 
@@ -41,6 +44,7 @@ unfoldable pub bodiesOk : List ℕ → ℕ → ℕ → ℕ → Bool
 bodiesOk b zero i s = eqb s (length b)
 bodiesOk b (suc k) i s = eqb (startOf b i) s && leb (sizeOf b i) (length b - s) && bodiesOk b k (suc i) (s + sizeOf b i)
 
+-- the contents rules (refusal 3)
 unfoldable pub contentsOk : List ℕ → Bool
 contentsOk b = headerOk b && bodiesOk b (count b) 0 (firstBody (count b))
 
@@ -48,10 +52,12 @@ contentsOk b = headerOk b && bodiesOk b (count b) 0 (firstBody (count b))
 unfoldable pub body : List ℕ → ℕ → List ℕ
 body b i = take (sizeOf b i) (drop (startOf b i) b)
 
+-- n bodies from pair i on
 unfoldable pub bodiesFrom : List ℕ → ℕ → ℕ → List (List ℕ)
 bodiesFrom b i zero = []
 bodiesFrom b i (suc k) = body b i ∷ bodiesFrom b (suc i) k
 
+-- all bodies of a book
 unfoldable pub bodies : List ℕ → List (List ℕ)
 bodies b = bodiesFrom b 0 (count b)
 
@@ -70,6 +76,7 @@ right : (a b : Bool) → a && b ≡ true → b ≡ true
 right true b e = e
 right false b e = absurd (false≢true e)
 
+-- what the test of the header gives
 pub record Header (b : List ℕ) : Type 0 where
   pub two : 2 ≤ length b
   pub most : length b ≤ 16384
@@ -93,6 +100,7 @@ pub contents-header : (b : List ℕ) → contentsOk b ≡ true → Header b
 unfolding contentsOk
 contents-header b e = header b (left (headerOk b) (bodiesOk b (count b) 0 (firstBody (count b))) e)
 
+-- bodies one after the other
 abbrev pub concat : List (List ℕ) → List ℕ
 concat [] = []
 concat (x ∷ xs) = x ++ concat xs

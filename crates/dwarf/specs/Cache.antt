@@ -49,13 +49,16 @@ fresh c (x ∷ xs) = newly (c (x .register)) + fresh (remember c x) xs
 
 -- ---- what the code hands on of forms and rules that may not be there
 
+-- the form, if there is one
 unfoldable pub formed : Formed → List Form
 formed f = cond (f .some) (formOf (f .form) ∷ []) []
 
+-- the rule, if there is one
 unfoldable pub formatted : Formatted → List Rule
 formatted f = cond (f .some) (ruleOf (f .rule) ∷ []) []
 
 module _ {A : Type 0} where
+  -- is there anything
   unfoldable pub any : List A → Bool
   any [] = false
   any (x ∷ xs) = true

@@ -35,6 +35,7 @@ usedValue k v = cond (leb 1 k && leb k 3) v 0
 unfoldable pub ruleAt : List ℕ → ℕ → RegisterRule
 ruleAt ws a = record { register = word ws a; kind = word ws (a + 1); value = usedValue (word ws (a + 1)) (wide ws (a + 2)) }
 
+-- n rules from word a on
 unfoldable pub rulesFrom : List ℕ → ℕ → ℕ → List RegisterRule
 rulesFrom ws zero a = []
 rulesFrom ws (suc n) a = ruleAt ws a ∷ rulesFrom ws n (a + 4)
@@ -47,12 +48,14 @@ cfaAt ws a = record {
   offset = cond (eqb (word ws (a + 4)) 0) (wide ws (a + 6)) 0;
 }
 
+-- start, end, CFA, rules
 pub record Row : Type 0 where
   pub start : ℕ
   pub end : ℕ
   pub cfa : CfaRule
   pub rules : List RegisterRule
 
+-- the ninth word of a row: its rule count
 abbrev pub ruleCount : List ℕ → ℕ → ℕ
 ruleCount ws a = word ws (a + 8)
 
@@ -60,22 +63,28 @@ ruleCount ws a = word ws (a + 8)
 abbrev pub nextRow : List ℕ → ℕ → ℕ
 nextRow ws a = a + 9 + 4 * ruleCount ws a
 
+-- the row at word a
 abbrev pub rowAt : List ℕ → ℕ → Row
 rowAt ws a = record { start = wide ws a; end = wide ws (a + 2); cfa = cfaAt ws a; rules = rulesFrom ws (ruleCount ws a) (a + 9) }
 
+-- m rows from word a on
 unfoldable pub rowsFrom : List ℕ → ℕ → ℕ → List Row
 rowsFrom ws zero a = []
 rowsFrom ws (suc m) a = rowAt ws a ∷ rowsFrom ws m (nextRow ws a)
 
+-- word 6: the row count
 abbrev pub rowCount : List ℕ → ℕ
 rowCount ws = word ws 6
 
+-- all rows of a body
 unfoldable pub rows : List ℕ → List Row
 rows ws = rowsFrom ws (rowCount ws) 7
 
+-- words 3 and 4: the load address
 abbrev pub loadAddress : List ℕ → ℕ
 loadAddress ws = wide ws 3
 
+-- the first row's start
 unfoldable pub firstStart : List Row → ℕ
 firstStart [] = 0
 firstStart (w ∷ ws) = w .start
@@ -97,10 +106,12 @@ fdeOf ws = record {
 
 -- ---- refusal 4: ranges, and exactly the words that the counts demand
 
+-- the registers that rules name
 unfoldable pub registers : List RegisterRule → List ℕ
 registers [] = []
 registers (x ∷ xs) = x .register ∷ registers xs
 
+-- is r among them
 unfoldable pub member : ℕ → List ℕ → Bool
 member r [] = false
 member r (q ∷ qs) = eqb q r || member r qs
@@ -119,6 +130,7 @@ distinct met (r ∷ rs) = cond (member r met) 0 1 + distinct (r ∷ met) rs
 unfoldable pub ruleFits : List ℕ → ℕ → Bool
 ruleFits ws a = ltb (word ws a) 65536 && cond (eqb (word ws (a + 1)) 3) (ltb (wide ws (a + 2)) 65536) (leb (word ws (a + 1)) 4)
 
+-- n rules from word a on
 unfoldable pub rulesFit : List ℕ → ℕ → ℕ → Bool
 rulesFit ws zero a = true
 rulesFit ws (suc n) a = ruleFits ws a && rulesFit ws n (a + 4)
@@ -127,6 +139,7 @@ rulesFit ws (suc n) a = ruleFits ws a && rulesFit ws n (a + 4)
 unfoldable pub cfaFits : List ℕ → ℕ → Bool
 cfaFits ws a = cond (eqb (word ws (a + 4)) 0) (ltb (word ws (a + 5)) 65536) (eqb (word ws (a + 4)) 1)
 
+-- at most 64 rules, no register twice
 unfoldable pub rowFits : List ℕ → ℕ → Bool
 rowFits ws a =
     (cfaFits ws a && leb (ruleCount ws a) 64)
@@ -137,6 +150,7 @@ unfoldable pub rowsFit : List ℕ → ℕ → ℕ → Bool
 rowsFit ws zero a = eqb a (length ws)
 rowsFit ws (suc m) a = rowFits ws a && rowsFit ws m (nextRow ws a)
 
+-- the rules of all rows
 unfoldable pub rulesOf : List Row → List RegisterRule
 rulesOf [] = []
 rulesOf (w ∷ ws) = w .rules ++ rulesOf ws
@@ -145,6 +159,7 @@ rulesOf (w ∷ ws) = w .rules ++ rulesOf ws
 unfoldable pub headFits : List ℕ → Bool
 headFits ws = leb (word ws 0) 10 && (ltb (word ws 5) 65536 && leb (rowCount ws) 1024)
 
+-- at most 64 distinct registers in a body
 unfoldable pub dwarfLayout : List ℕ → Bool
 dwarfLayout ws = headFits ws && (rowsFit ws (rowCount ws) 7 && leb (distinct [] (registers (rulesOf (rows ws)))) 64)
 
@@ -159,16 +174,19 @@ unfoldable pub anyBelow : ℕ → ℕ → List Row → Bool
 anyBelow first load [] = false
 anyBelow first load (w ∷ ws) = (not (eqb (w .start) first) && ltb (w .start) load) || anyBelow first load ws
 
+-- last end below first start, or such a row
 unfoldable pub dwarfReach : List ℕ → ℕ
 dwarfReach ws =
     cond (ltb (lastEnd 0 (rows ws)) (firstStart (rows ws)) || anyBelow (firstStart (rows ws)) (loadAddress ws) (rows ws)) 6 0
 
+-- 4, skipping, then 6
 unfoldable pub dwarfJudged : List ℕ → Judged
 dwarfJudged ws =
     cond (dwarfLayout ws) (cond (dwarfSkipped ws) Skip (cond (eqb (dwarfReach ws) 0) Write (Refuse (dwarfReach ws)))) (Refuse 4)
 
 -- ---- what a rule and a CFA write: nothing where a name lacks. An empty name is none.
 
+-- the form of a register that has a name
 unfoldable pub nameForm : Bytes → List Form
 nameForm [] = []
 nameForm (c ∷ n) = register (c ∷ n) ∷ []
@@ -179,6 +197,7 @@ ruleForms f x =
     cond (eqb (x .kind) 0) (nameForm (cfiName f (x .register))) (cond (eqb (x .kind) 1) (atCfaPlus (twos (x .value)) ∷ [])
     (cond (eqb (x .kind) 2) (cfaPlus (twos (x .value)) ∷ []) (cond (eqb (x .kind) 3) (nameForm (cfiName f (x .value))) [])))
 
+-- a rule, where both the name and the form are there
 unfoldable pub named : Bytes → List Form → List Rule
 named n [] = []
 named [] (f ∷ fs) = []
@@ -188,10 +207,12 @@ named (c ∷ n) (f ∷ fs) = rule (c ∷ n) f ∷ []
 unfoldable pub ruleRules : ℕ → ℕ → RegisterRule → List Rule
 ruleRules f ra x = named (cond (eqb (x .register) ra) (ascii ".ra") (cfiName f (x .register))) (ruleForms f x)
 
+-- " .cfa: R N +"
 unfoldable pub cfaPlusRules : Bytes → ℤ → List Rule
 cfaPlusRules [] z = []
 cfaPlusRules (c ∷ n) z = rule cfa (registerPlus (c ∷ n) z) ∷ []
 
+-- an expression writes nothing
 unfoldable pub cfaRules : ℕ → CfaRule → List Rule
 cfaRules f x = cond (eqb (x .kind) 0) (cfaPlusRules (cfiName f (x .register)) (twos (x .offset))) []
 
@@ -201,9 +222,11 @@ raRules f ra = named (ascii ".ra") (cond (leb 3 f && leb f 9) (nameForm (cfiName
 
 -- ---- a row's line: its rules are rs, and `moved` says that the return register's rule changed
 
+-- at the first start, where the return register's rule did not change
 unfoldable pub defaultRules : Fde → ℕ → Bool → List Rule
 defaultRules e start moved = cond (eqb start (e .start) && not moved) (raRules (e .family) (e .ra)) []
 
+-- INIT at the first start; addresses less the load address
 unfoldable pub lineOf : Fde → ℕ → List Rule → Line
 lineOf e start rs = cond (eqb start (e .start)) (init (start - e .load) (e .length) rs) (later (start - e .load) rs)
 
@@ -214,6 +237,7 @@ rowLine e start (r ∷ rs) moved = lineOf e start ((r ∷ rs) ++ defaultRules e 
 
 -- ---- the rows as they are run: the CFA last seen, and the rules last seen, by register
 
+-- of a register: nothing yet, or kind and value
 pub data Seen : Type 0 where
   never : Seen
   seen : ℕ → ℕ → Seen
@@ -223,17 +247,21 @@ abbrev pub differs : Seen → ℕ → ℕ → Bool
 differs never k v = true
 differs (seen k₀ v₀) k v = not (eqb k₀ k && eqb v₀ v)
 
+-- of the CFA: nothing yet, or the last one
 pub data CfaSeen : Type 0 where
   noCfa : CfaSeen
   lastCfa : CfaRule → CfaSeen
 
+-- the CFA is treated alike
 abbrev pub cfaDiffers : CfaSeen → CfaRule → Bool
 cfaDiffers noCfa x = true
 cfaDiffers (lastCfa y) x = not (eqb (y .kind) (x .kind) && (eqb (y .register) (x .register) && eqb (y .offset) (x .offset)))
 
+-- register r now has kind k and value v
 abbrev pub remembered : (ℕ → Seen) → ℕ → ℕ → ℕ → (ℕ → Seen)
 remembered c r k v = λ q. cond (eqb r q) (seen k v) (c q)
 
+-- a rule is remembered, written or not
 abbrev pub remember : (ℕ → Seen) → RegisterRule → (ℕ → Seen)
 remember c x = remembered c (x .register) (x .kind) (x .value)
 
@@ -256,19 +284,24 @@ ranMoved ra c (x ∷ xs) = (eqb (x .register) ra && differs (c (x .register)) (x
 unfoldable pub ranOf : Fde → CfaSeen → (ℕ → Seen) → Row → List Rule
 ranOf e s c w = cond (cfaDiffers s (w .cfa)) (cfaRules (e .family) (w .cfa)) [] ++ ranRules (e .family) (e .ra) c (w .rules)
 
+-- a row against what was last seen
 unfoldable pub ranRow : Fde → CfaSeen → (ℕ → Seen) → Row → List Line
 ranRow e s c w = rowLine e (w .start) (ranOf e s c w) (ranMoved (e .ra) c (w .rules))
 
+-- all rows, each against what those before left
 unfoldable pub ranRows : Fde → CfaSeen → (ℕ → Seen) → List Row → List Line
 ranRows e s c [] = []
 ranRows e s c (w ∷ ws) = ranRow e s c w ++ ranRows e (lastCfa (w .cfa)) (seenAfter c (w .rules)) ws
 
+-- before the first row
 unfoldable pub nothingSeen : ℕ → Seen
 nothingSeen q = never
 
+-- the lines of all rows
 unfoldable pub dwarfText : List ℕ → List ℕ
 dwarfText ws = render false (ranRows (fdeOf ws) noCfa nothingSeen (rows ws))
 
+-- DWARF passes on what was left to it
 unfoldable pub dwarfEntry : Last → List ℕ → Entry
 dwarfEntry last ws = comesTo (dwarfJudged ws) (dwarfText ws) last last
 

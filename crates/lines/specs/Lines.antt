@@ -10,6 +10,7 @@ use Rattle.text.specs.Digits.{hex, signed, Digits·open}
 use Rattle.lines.specs.declared.StackInfo.{StackInfo}
 pub mod Laws
 
+-- text as a list of bytes
 abbrev pub Bytes : Type 0
 Bytes = List ℕ
 
@@ -42,6 +43,7 @@ cfa = ascii ".cfa"
 abbrev pub amount : ℤ → Bytes → Bytes
 amount n operators = ascii " " ++ signed n ++ operators
 
+-- the six forms, as Breakpad writes them
 unfoldable pub formText : Form → Bytes
 formText (register r) = r
 formText (registerPlus r n) = r ++ amount n (ascii " +")
@@ -50,13 +52,16 @@ formText (cfaPlus n) = cfa ++ amount n (ascii " +")
 formText (atCfaPlus n) = cfa ++ amount n (ascii " + ^")
 formText (atCfaMinus n) = cfa ++ amount n (ascii " - ^")
 
+-- a space, the name, a colon, a space, the form
 unfoldable pub ruleText : Rule → Bytes
 ruleText (rule n f) = ascii " " ++ n ++ ascii ": " ++ formText f
 
+-- rules one after the other
 unfoldable pub rulesText : List Rule → Bytes
 rulesText [] = []
 rulesText (r ∷ rs) = ruleText r ++ rulesText rs
 
+-- INIT, address and size in hexadecimal
 unfoldable pub initText : ℕ → ℕ → Bytes
 initText address size = ascii "STACK CFI INIT " ++ hex address ++ ascii " " ++ hex size
 
@@ -65,6 +70,7 @@ abbrev pub gap : Bool → Bytes
 gap false = ascii " "
 gap true = ascii "      "
 
+-- a later line has an address alone, and ARM64 six spaces
 unfoldable pub laterText : Bool → ℕ → Bytes
 laterText six address = ascii "STACK CFI" ++ gap six ++ hex address
 
@@ -72,15 +78,18 @@ laterText six address = ascii "STACK CFI" ++ gap six ++ hex address
 abbrev pub field : ℕ → Bytes
 field n = hex n ++ ascii " "
 
+-- 1 with a program, else 0
 abbrev pub flag : Bool → Bytes
 flag false = ascii "0 "
 flag true = ascii "1 "
 
+-- 01, PDB body: the nine numbers, then the flag
 unfoldable pub winText : StackInfo → Bool → Bytes
 winText i program =
     ascii "STACK WIN " ++ field (i .ty) ++ field (i .start) ++ field (i .«code_size») ++ field (i .«prolog_size») ++ field (i .«epilog_size»)
     ++ field (i .«params_size») ++ field (i .«saved_regs_size») ++ field (i .«locals_size») ++ field (i .«max_stack_size») ++ flag program
 
+-- a line with its newline
 unfoldable pub lineText : Bool → Line → Bytes
 lineText six (init a z rs) = initText a z ++ rulesText rs ++ ascii "\n"
 lineText six (later a rs) = laterText six a ++ rulesText rs ++ ascii "\n"
@@ -97,9 +106,11 @@ render six (l ∷ ls) = lineText six l ++ render six ls
 abbrev pub solid : ℕ → Bool
 solid c = not (eqb c 32) && not (eqb c 10)
 
+-- no colon, and nothing that ends a word or a line
 abbrev pub nameByte : ℕ → Bool
 nameByte c = not (eqb c 58) && solid c
 
+-- every byte of a name is such
 abbrev pub nameOk : Bytes → Bool
 nameOk = all nameByte
 
@@ -107,6 +118,7 @@ nameOk = all nameByte
 abbrev pub registerOk : Bytes → Bool
 registerOk r = nameOk r && not (eqw r cfa)
 
+-- the register of a form is one
 abbrev pub formOk : Form → Bool
 formOk (register r) = registerOk r
 formOk (registerPlus r n) = registerOk r
@@ -115,9 +127,11 @@ formOk (cfaPlus n) = true
 formOk (atCfaPlus n) = true
 formOk (atCfaMinus n) = true
 
+-- name and form
 abbrev pub ruleOk : Rule → Bool
 ruleOk (rule n f) = nameOk n && formOk f
 
+-- what the reader can read back
 abbrev pub lineOk : Line → Bool
 lineOk (init a z rs) = all ruleOk rs
 lineOk (later a rs) = all ruleOk rs

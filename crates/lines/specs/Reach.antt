@@ -7,6 +7,7 @@ use lib.IntN.{ℤ, pos, negsuc, subℕ}
 use lib.Dec.{ltb}
 use borrow.Author.Tests.{lt-ltb}
 
+-- 01, refusal 6: inside signed 32 bits
 unfoldable pub inside : ℤ → Bool
 inside (pos n) = ltb n (2 ^ 31)
 inside (negsuc n) = ltb n (2 ^ 31)

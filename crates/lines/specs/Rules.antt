@@ -13,17 +13,20 @@ use Rattle.lines.specs.declared.Form.the-variants.{Register, RegisterPlu
 use Rattle.lines.specs.declared.Rule.{Rule}
 pub mod Laws
 
+-- the name of a register that the code hands on
 unfoldable pub regName : Reg → List ℕ
 regName Sp = ascii ".sp"
 regName (Pe r) = peName r
 regName (Cfi f r) = cfiName f r
 regName (Arm64 l r) = arm64Name l r
 
+-- and of what a rule is for
 unfoldable pub ruleName : Name → List ℕ
 ruleName Cfa = ascii ".cfa"
 ruleName Ra = ascii ".ra"
 ruleName (Of r) = regName r
 
+-- the code's forms are those of the sense
 unfoldable pub formOf : Form → L.Form
 formOf (Register r) = L.register (regName r)
 formOf (RegisterPlus r n) = L.registerPlus (regName r) n
@@ -32,5 +35,6 @@ formOf (CfaPlus n) = L.cfaPlus n
 formOf (AtCfaPlus n) = L.atCfaPlus n
 formOf (AtCfaMinus n) = L.atCfaMinus n
 
+-- and its rules
 unfoldable pub ruleOf : Rule → L.Rule
 ruleOf r = L.rule (ruleName (r .name)) (formOf (r .form))

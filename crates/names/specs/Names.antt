@@ -112,9 +112,11 @@ table f =
     cond (eqb f 1) i386 (cond (eqb f 2) x86-64 (cond (eqb f 3) arm (cond (eqb f 4) arm64 (cond (eqb f 5) ppc (cond (eqb f 6) ppc
     (cond (eqb f 7) mips (cond (eqb f 8) mips (cond (eqb f 9) arm64 []))))))))
 
+-- 01, Names: by family, numbered as `CpuFamily`; a missing entry is no name
 unfoldable pub cfiName : ℕ → ℕ → List ℕ
 cfiName family register = getD (table family) register []
 
+-- 01, Names: PE x64 registers follow Microsoft
 unfoldable pub peName : ℕ → List ℕ
 peName register = getD pe-x64 register []
 
@@ -122,6 +124,7 @@ peName register = getD pe-x64 register []
 unfoldable pub letterOf : ℕ → List ℕ
 letterOf l = cond (eqb l 0) (ascii "x") (cond (eqb l 1) (ascii "d") (ascii "q"))
 
+-- 01, ARM64 body: letter and number, with a point before them
 unfoldable pub arm64Name : ℕ → ℕ → List ℕ
 arm64Name l register = ascii "." ++ letterOf l ++ decimal register
 

@@ -11,6 +11,7 @@ use Rattle.names.specs.declared.RegisterName.{RegisterName}
 abbrev pub within : List ℕ → ℕ → Bool
 within t i = leb (10 * i + 10) (length t)
 
+-- the digit before a name
 unfoldable pub lengthAt : List ℕ → ℕ → ℕ
 lengthAt t i = cond (within t i) (getD t (10 * i) 0 - 48) 0
 
@@ -21,6 +22,7 @@ nameAt t i = take (lengthAt t i) (
     ∷ getD t (10 * i + 5) 0 ∷ getD t (10 * i + 6) 0 ∷ getD t (10 * i + 7) 0 ∷ getD t (10 * i + 8) 0 ∷ []
     )
 
+-- what the entry at r of a table gives: none past its end
 pub record Entry (t : List ℕ) (i : ℕ) (r : RegisterName) : Type 0 where
   pub text : take (r .len) (r .bytes) ≡ nameAt t i
   pub size : r .len ≡ lengthAt t i

@@ -25,6 +25,7 @@ use Rattle.pdb.specs.declared.Range.{Range}
 abbrev pub startOf : Range → ℕ
 startOf r = r .start .0
 
+-- a range's end
 abbrev pub endOf : Range → ℕ
 endOf r = r .end .0
 
@@ -42,12 +43,15 @@ unfoldable pub wordsFrom : List ℕ → ℕ → ℕ → List ℕ
 wordsFrom ws a zero = []
 wordsFrom ws a (suc n) = word ws a ∷ wordsFrom ws (a + 1) n
 
+-- the prolog ranges
 unfoldable pub prologs : List ℕ → List Range
 prologs ws = ranges ws 15 (word ws 12)
 
+-- the code ranges behind them
 unfoldable pub codes : List ℕ → List Range
 codes ws = ranges ws (15 + 2 * word ws 12) (word ws 13)
 
+-- the program bytes behind the ranges, one a word
 unfoldable pub program : List ℕ → List ℕ
 program ws = wordsFrom ws (15 + 2 * word ws 12 + 2 * word ws 13) (word ws 14)
 
@@ -69,6 +73,7 @@ hasProgram ws = eqb (word ws 10) 1 && eqb (word ws 11) 1
 unfoldable pub lengthFits : List ℕ → Bool
 lengthFits ws = cond (hasProgram ws) (leb (word ws 14) 1024) (eqb (word ws 14) 0)
 
+-- at most 16 ranges in each list, at most 1,024 bytes
 unfoldable pub countsFit : List ℕ → Bool
 countsFit ws = leb (word ws 12) 16 && (leb (word ws 13) 16 && lengthFits ws)
 
@@ -86,6 +91,7 @@ unfoldable pub differ : List Range → Bool
 differ [] = true
 differ (r ∷ rs) = apart (startOf r) rs && differ rs
 
+-- no range ends before it starts; starts differ
 unfoldable pub rangesFit : List Range → Bool
 rangesFit rs = all rangeFits rs && differ rs
 
@@ -93,11 +99,13 @@ rangesFit rs = all rangeFits rs && differ rs
 unfoldable pub printable : ℕ → Bool
 printable c = leb 32 c && leb c 126
 
+-- exactly the words that the counts demand, and ranges and program within their rules
 unfoldable pub restFits : List ℕ → Bool
 restFits ws =
     eqb (15 + 2 * word ws 12 + 2 * word ws 13 + word ws 14) (length ws)
     && (rangesFit (prologs ws) && (rangesFit (codes ws) && all printable (program ws)))
 
+-- all of it
 unfoldable pub pdbLayout : List ℕ → Bool
 pdbLayout ws = sizesFit ws && (flagsFit ws && (countsFit ws && restFits ws))
 
@@ -129,6 +137,7 @@ unfoldable pub lead : List ℕ → List ℕ
 lead [] = []
 lead (c ∷ cs) = cond (eqb c 32) (lead cs) (c ∷ cs)
 
+-- no spaces at both ends
 unfoldable pub trim : List ℕ → List ℕ
 trim t = reverse (lead (reverse (lead t)))
 
@@ -136,6 +145,7 @@ trim t = reverse (lead (reverse (lead t)))
 unfoldable pub tailText : List ℕ → List ℕ
 tailText ws = cond (eqb (word ws 10) 1) (cond (eqb (word ws 11) 1) (trim (program ws)) []) (hex (word ws 9))
 
+-- max stack or 0
 unfoldable pub maxStack : List ℕ → ℕ
 maxStack ws = cond (eqb (word ws 7) 1) (word ws 8) 0
 
@@ -153,9 +163,11 @@ infoOf ws s e p = record {
   «max_stack_size» = maxStack ws;
 }
 
+-- a line: its numbers, flag and tail
 unfoldable pub infoText : List ℕ → StackInfo → List ℕ
 infoText ws i = winText i (hasProgram ws) ++ tailText ws ++ ascii "\n"
 
+-- lines one after the other
 unfoldable pub infosText : List ℕ → List StackInfo → List ℕ
 infosText ws [] = []
 infosText ws (i ∷ is) = infoText ws i ++ infosText ws is
@@ -167,6 +179,7 @@ unfoldable pub insert : Range → List Range → List Range
 insert r [] = r ∷ []
 insert r (q ∷ qs) = cond (leb (startOf r) (startOf q)) (r ∷ q ∷ qs) (q ∷ insert r qs)
 
+-- by start
 unfoldable pub sorted : List Range → List Range
 sorted [] = []
 sorted (r ∷ rs) = insert r (sorted rs)
@@ -175,6 +188,7 @@ sorted (r ∷ rs) = insert r (sorted rs)
 unfoldable pub prologOf : Bool → Range → ℕ
 prologOf prolog r = cond prolog (endOf r - startOf r) 0
 
+-- a line for each range
 unfoldable pub rangeInfos : List ℕ → Bool → List Range → List StackInfo
 rangeInfos ws prolog rs = map (λ (r : Range). infoOf ws (startOf r) (endOf r) (prologOf prolog r)) rs
 
@@ -196,14 +210,17 @@ stackInfos ws = cond (contiguous (prologs ws) (codes ws))
     (bothInfo ws (rangeAt ws 15) (rangeAt ws 17) ∷ [])
     (rangeInfos ws true (sorted (prologs ws)) ++ rangeInfos ws false (sorted (codes ws)))
 
+-- the lines of an entry
 unfoldable pub pdbText : List ℕ → List ℕ
 pdbText ws = infosText ws (stackInfos ws)
 
 -- ---- one entry: 4, skipping, 6; it leaves its own words to the next where it is written
 
+-- 4, skipping, then 6
 unfoldable pub pdbJudged : Last → List ℕ → Judged
 pdbJudged last ws = cond (pdbLayout ws) (cond (pdbSkipped last ws) Skip (cond (inReach ws) Write (Refuse 6))) (Refuse 4)
 
+-- an entry that is written is the last one for the next
 unfoldable pub pdbEntry : Last → List ℕ → Entry
 pdbEntry last ws = comesTo (pdbJudged last ws) (pdbText ws) last (leaves ws)
 

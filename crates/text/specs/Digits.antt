@@ -19,9 +19,11 @@ digitsIn b (suc f) n = elim (ltb n b) [ true ↦ digit n ∷ [] | false ↦ digi
 unfoldable pub digits : ℕ → ℕ → List ℕ
 digits b n = digitsIn b n n
 
+-- 01, Numbers: lower-case hexadecimal without leading zeros
 unfoldable pub hex : ℕ → List ℕ
 hex n = digits 16 n
 
+-- the magnitude of a signed decimal
 unfoldable pub decimal : ℕ → List ℕ
 decimal n = digits 10 n
 
@@ -32,6 +34,7 @@ signed (negsuc n) = 45 ∷ decimal (suc n)
 
 -- ---- the numbers, read back
 
+-- the value of a digit, either base
 unfoldable pub undigit : ℕ → ℕ
 undigit c = cond (ltb c 97) (c - 48) (c - 87)
 
@@ -40,12 +43,15 @@ unfoldable pub value : ℕ → ℕ → List ℕ → ℕ
 value b a [] = a
 value b a (c ∷ cs) = value b (a * b + undigit c) cs
 
+-- a number read back from its digits
 unfoldable pub readHex : List ℕ → ℕ
 readHex cs = value 16 0 cs
 
+-- the same in decimal
 unfoldable pub readDecimal : List ℕ → ℕ
 readDecimal cs = value 10 0 cs
 
+-- and with a sign before it
 unfoldable pub readSigned : List ℕ → ℤ
 readSigned [] = pos 0
 readSigned (c ∷ cs) = cond (eqb c 45) (negsuc (pred (readDecimal cs))) (pos (readDecimal (c ∷ cs)))

@@ -26,9 +26,11 @@ entryOf kind limit last body =
 abbrev pub AREA : ℕ
 AREA = 8192
 
+-- an entry has at most 8,192 bytes of text (refusal 8)
 abbrev pub LONGEST : ℕ
 LONGEST = 8192
 
+-- the highest limit (refusal 2)
 abbrev pub MOST-LIMIT : ℕ
 MOST-LIMIT = 32
 
@@ -48,6 +50,7 @@ abbrev pub onward : ℕ → ℕ → List ℕ → Walked → Walked
 onward zero done acc rest = rest
 onward (suc n) done acc rest = record { number = suc n; done = done; text = acc }
 
+-- each entry in turn, until one is refused
 unfoldable pub walk : ℕ → ℕ → ℕ → Last → List (List ℕ) → ℕ → List ℕ → Walked
 walk k l room s [] done acc = record { number = 0; done = done; text = acc }
 walk k l room s (b ∷ bs) done acc =
@@ -60,6 +63,7 @@ walkOf b l room = walk (kind b) l room noLast (bodies b) 0 []
 
 -- ---- the call
 
+-- all that a call comes to
 pub record Outcome : Type 0 where
   pub number : ℕ
   pub entries : ℕ
@@ -105,6 +109,7 @@ pub record Called (o : Outcome) (w′ t′ : List ℕ) (r : Returned) : Type 0 w
 abbrev pub counted : List ℕ → ℕ → ℕ → List ℕ
 counted c n m = cond (ltb (length c) 2) c (set (set c 0 n) 1 m)
 
+-- the same with the counts that C gets
 pub record Exported (o : Outcome) (c w′ t′ c′ : List ℕ) (number : ℕ) : Type 0 where
   pub number-is : number ≡ o .number
   pub work-is : w′ ≡ o .work

@@ -35,6 +35,7 @@ unfoldable pub linesOf : ℕ → ℕ → Last → List ℕ → List Line
 linesOf kind limit last body =
     cond (eqb kind 2) (armLines body) (cond (eqb kind 3) (dwarfLines body) (cond (eqb kind 4) (pdbLines last body) (x64Lines limit body)))
 
+-- the lines of the entries from here on
 unfoldable pub senseFrom : ℕ → ℕ → Last → List (List ℕ) → List Line
 senseFrom k l s [] = []
 senseFrom k l s (b ∷ bs) = linesOf k l s b ++ senseFrom k l (entryOf k l s b .next) bs

@@ -41,14 +41,17 @@ unfoldable pub inOrder : List (List Op) → List Op
 inOrder [] = []
 inOrder (os ∷ rest) = reverse os ++ inOrder rest
 
+-- word 3: the number of infos
 abbrev pub infoCount : List ℕ → ℕ
 infoCount ws = word ws 3
 
+-- all operations of a body in that order
 unfoldable pub chain : List ℕ → List Op
 chain ws = inOrder (infos ws (infoCount ws) 4)
 
 -- ---- what an operation adds to the total, uses and writes, where the total is S
 
+-- 8 a push, its value an allocation, 40 a machine frame and 8 its error code
 unfoldable pub growthOf : Op → ℕ
 growthOf (PushNonVolatile r) = 8
 growthOf (Alloc v) = v
@@ -59,6 +62,7 @@ growthOf (PushMachineFrame code) = cond code 48 40
 growthOf Other = 0
 growthOf Undecodable = 0
 
+-- the value that an operation uses (refusal 6)
 unfoldable pub valueOf : Op → ℕ
 valueOf (PushNonVolatile r) = 0
 valueOf (Alloc v) = v
@@ -73,6 +77,7 @@ valueOf Undecodable = 0
 unfoldable pub machineRules : ℕ → List Rule
 machineRules S = rule (ascii "$rsp") (atCfaMinus (pos (S + 16))) ∷ rule (ascii ".ra") (atCfaMinus (pos (S + 40))) ∷ []
 
+-- push: S + 8; save 3: S - value; save 4: value - frame offset from the frame register
 unfoldable pub opRules : ℕ → Op → List Rule
 opRules S (PushNonVolatile r) = rule (peName r) (atCfaMinus (pos (S + 8))) ∷ []
 opRules S (Alloc v) = []
@@ -94,6 +99,7 @@ opCfa S (PushMachineFrame code) = []
 opCfa S Other = []
 opCfa S Undecodable = []
 
+-- is it a machine frame
 unfoldable pub isMachine : Op → Bool
 isMachine (PushNonVolatile r) = false
 isMachine (Alloc v) = false
@@ -104,6 +110,7 @@ isMachine (PushMachineFrame code) = true
 isMachine Other = false
 isMachine Undecodable = false
 
+-- is there one in the chain
 unfoldable pub anyMachine : List Op → Bool
 anyMachine [] = false
 anyMachine (o ∷ os) = isMachine o || anyMachine os
@@ -111,6 +118,7 @@ anyMachine (o ∷ os) = isMachine o || anyMachine os
 -- ---- the line, as the operations are run with the total S
 
 module _ {A : Type 0} where
+  -- what f gives of each, one after the other, with the total before it
   unfoldable pub run : (ℕ → Op → List A) → ℕ → List Op → List A
   run f S [] = []
   run f S (o ∷ os) = f S o ++ run f (S + growthOf o) os
@@ -125,12 +133,15 @@ unfoldable pub cfaForm : List Form → ℕ → Form
 cfaForm [] S = registerPlus (ascii "$rsp") (pos S)
 cfaForm (f ∷ fs) S = f
 
+-- with no machine frame, " .ra: .cfa 8 - ^" ends the line
 unfoldable pub raRules : Bool → List Rule
 raRules machine = cond machine [] (rule (ascii ".ra") (atCfaMinus (pos 8)) ∷ [])
 
+-- the CFA rule, then the others as run
 unfoldable pub ranRules : List Op → List Rule
 ranRules os = rule cfa (cfaForm (run opCfa 8 os) (total 8 os)) ∷ (run opRules 8 os ++ raRules (anyMachine os))
 
+-- INIT, begin, end less begin, and the rules
 unfoldable pub x64Text : List ℕ → List ℕ
 x64Text ws = lineText false (init (word ws 0) (word ws 1 - word ws 0) (ranRules (chain ws)))
 
@@ -140,10 +151,12 @@ x64Text ws = lineText false (init (word ws 0) (word ws 1 - word ws 0) (ranRules 
 unfoldable pub opFits : ℕ → ℕ → ℕ → Bool
 opFits k r v = cond (eqb k 1 || (eqb k 3 || eqb k 4)) (ltb r 16) (cond (eqb k 6) (leb v 1) (leb 1 k && leb k 8))
 
+-- n operations from word a on
 unfoldable pub opsFit : List ℕ → ℕ → ℕ → Bool
 opsFit ws a zero = true
 opsFit ws a (suc n) = opFits (word ws a) (word ws (a + 1)) (word ws (a + 2)) && opsFit ws (a + 3) n
 
+-- frame register 0 to 15, frame offset 0 to 240, at most 255 operations
 unfoldable pub infoFits : List ℕ → ℕ → Bool
 infoFits ws a = (ltb (word ws a) 16 && (leb (word ws (a + 1)) 240 && leb (word ws (a + 2)) 255)) && opsFit ws (a + 3) (word ws (a + 2))
 
@@ -152,11 +165,13 @@ unfoldable pub infosFit : List ℕ → ℕ → ℕ → Bool
 infosFit ws zero a = eqb a (length ws)
 infosFit ws (suc m) a = infoFits ws a && infosFit ws m (a + 3 + 3 * word ws (a + 2))
 
+-- 1 to 32 infos
 unfoldable pub x64Layout : List ℕ → Bool
 x64Layout ws = (leb 1 (infoCount ws) && leb (infoCount ws) 32) && infosFit ws (infoCount ws) 4
 
 -- ---- skipping
 
+-- all three leading words zero
 unfoldable pub allZero : ℕ → ℕ → ℕ → Bool
 allZero a b c = eqb a 0 && (eqb b 0 && eqb c 0)
 
@@ -165,6 +180,7 @@ unfoldable pub undecodableOps : List ℕ → ℕ → ℕ → Bool
 undecodableOps ws a zero = false
 undecodableOps ws a (suc n) = eqb (word ws a) 8 || undecodableOps ws (a + 3) n
 
+-- the same in m infos from word a on
 unfoldable pub undecodableInfos : List ℕ → ℕ → ℕ → Bool
 undecodableInfos ws zero a = false
 undecodableInfos ws (suc m) a = undecodableOps ws (a + 3) (word ws (a + 2)) || undecodableInfos ws m (a + 3 + 3 * word ws (a + 2))
@@ -192,6 +208,7 @@ unfoldable pub inReach : ℕ → List Op → Bool
 inReach S [] = true
 inReach S (o ∷ os) = (ltb (valueOf o) (2 ^ 31) && (inside (pos (S + growthOf o)) && all inside (printed S o))) && inReach (S + growthOf o) os
 
+-- does it set a frame register
 unfoldable pub isSet : Op → Bool
 isSet (PushNonVolatile r) = false
 isSet (Alloc v) = false
@@ -207,16 +224,19 @@ unfoldable pub setCount : List Op → ℕ
 setCount [] = 0
 setCount (o ∷ os) = cond (isSet o) 1 0 + setCount os
 
+-- 5, then 6, then 7; 0 for none
 unfoldable pub x64Reach : ℕ → List ℕ → ℕ
 x64Reach limit ws =
     cond (ltb limit (infoCount ws)) 5 (cond (inReach 8 (chain ws)) (cond (ltb 1 (setCount (chain ws))) 7 0) 6)
 
 -- ---- one entry: 4, skipping, 5 to 7
 
+-- 4, skipping, then the rest
 unfoldable pub x64Judged : ℕ → List ℕ → Judged
 x64Judged limit ws =
     cond (x64Layout ws) (cond (x64Skipped limit ws) Skip (cond (eqb (x64Reach limit ws) 0) Write (Refuse (x64Reach limit ws)))) (Refuse 4)
 
+-- x64 passes on what was left to it
 unfoldable pub x64Entry : ℕ → Last → List ℕ → Entry
 x64Entry limit last ws = comesTo (x64Judged limit ws) (x64Text ws) last last
 
