@@ -270,7 +270,7 @@ pub fn pe_register_name(register: u32) -> RegisterName
     }
 }
 
-pub fn put_name(out: &mut [u8], at: usize, name: RegisterName) -> usize
+fn put_name(out: &mut [u8], at: usize, name: RegisterName) -> usize
     requires { ⌜ name .len ≤ 8 ⌝ }
     ensures { λ r. ⌜ Put (now (out .entry)) at (take (name .len) (name .bytes)) (now (out .exit)) r ⌝ }
 {

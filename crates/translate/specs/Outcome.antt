@@ -22,7 +22,7 @@ entryOf kind limit last body =
 
 -- ---- the entries in turn
 
--- the work area's bytes that are used; the longest text of an entry; the highest limit
+-- the work area's bytes that are used and cleared (refusal 1)
 abbrev pub AREA : ℕ
 AREA = 8192
 
