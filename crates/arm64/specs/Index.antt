@@ -49,6 +49,7 @@ counting-run ws a (suc n) = go (eqb (word ws a) 9) (counting-run ws (a + 4) n)
     go true e = refl
     go false e = reverse-cons (opAt ws a) (counting ws (a + 4) n) ∙ ap (λ (l : List Op). l ++ (opAt ws a ∷ [])) e ∙ sym (last-first ws a (firstEnd ws (a + 4) n))
 
+-- 01, ARM64 body: the operations before the first end count
 abbrev pub counted : List ℕ → ℕ
 counted ws = firstEnd ws 3 (opCount ws)
 

@@ -77,6 +77,7 @@ unfoldable pub linesFrom : ℕ → ℕ → List Op → List Op → List Line
 linesFrom a z ds [] = []
 linesFrom a z ds (o ∷ os) = armLine a z (length ds) (opRules ds o) ∷ linesFrom a z (o ∷ ds) os
 
+-- 01, Sense: the lines of an entry that is written
 unfoldable pub armLines : List ℕ → List Line
 armLines ws = ifWritten (armJudged ws) (linesFrom (word ws 0) (word ws 1) [] (ops ws))
 
@@ -132,6 +133,7 @@ arm-entry-text last ws = go (armJudged ws)
 
 -- ---- every line is well formed
 
+-- every rule is well formed
 abbrev fine : List Rule → Type 0
 fine rs = T (all ruleOk rs)
 

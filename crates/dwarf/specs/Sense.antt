@@ -26,10 +26,12 @@ use Rattle.dwarf.specs.Index.{layout-rows, written}
 
 -- ---- the last earlier row
 
+-- what the later one says; where it says nothing, the earlier
 abbrev pub orElse : Seen → Seen → Seen
 orElse never y = y
 orElse (seen k v) y = seen k v
 
+-- what one rule says of register r
 unfoldable pub says : RegisterRule → ℕ → Seen
 says x r = cond (eqb (x .register) r) (seen (x .kind) (x .value)) never
 
@@ -67,6 +69,7 @@ dwarfRow e ds w =
     rowLine e (w .start) (cond (cfaDiffers (cfaBefore ds) (w .cfa)) (cfaRules (e .family) (w .cfa)) [] ++ newRules (e .family) (e .ra) (lastSaid ds) (w .rules))
     (raDiffers (e .ra) (lastSaid ds) (w .rules))
 
+-- 01, Sense: the lines of rows in order, where the rows ds come before them
 unfoldable pub dwarfRows : Fde → List Row → List Row → List Line
 dwarfRows e ds [] = []
 dwarfRows e ds (w ∷ ws) = dwarfRow e ds w ++ dwarfRows e (ds ++ (w ∷ [])) ws
@@ -156,6 +159,7 @@ ran-ra ra c (x ∷ xs) h =
 
 -- ---- all rows
 
+-- 01, DWARF body: no register twice in a row
 abbrev rowOnce : Row → Bool
 rowOnce w = once (registers (w .rules))
 

@@ -11,6 +11,7 @@ use Rattle.entry.specs.Entry.{noLast}
 use Rattle.dwarf.specs.Dwarf.{dwarfEntry, Dwarf·open}
 use Rattle.dwarf.specs.Sense.{dwarfLines, dwarfRows, dwarfRow, newRules, raDiffers, lastSaid, saidBy, says, cfaBefore}
 
+-- a body's words, and what its entry gives
 pub record Case : Type 0 where
   pub words : List ℕ
   pub number : ℕ

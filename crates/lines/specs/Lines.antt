@@ -36,6 +36,7 @@ pub data Line : Type 0 where
 
 -- ---- their text
 
+-- the name of the canonical frame address
 abbrev pub cfa : Bytes
 cfa = ascii ".cfa"
 

@@ -11,6 +11,7 @@ pub mod Laws
 
 -- ---- a rule, by its words: 58 is ':'
 
+-- the six forms, by how many words there are, by .cfa and by the operator
 unfoldable pub readForm : List Bytes → Form
 readForm [] = register []
 readForm (r ∷ []) = register r
@@ -24,12 +25,14 @@ unfoldable pub front : List Bytes → List Bytes
 front [] = []
 front (w ∷ ws) = cond (free 58 w) (w ∷ front ws) []
 
+-- a name, and the form up to the next name
 unfoldable pub readRules : List Bytes → List Rule
 readRules [] = []
 readRules (w ∷ ws) = cond (free 58 w) (readRules ws) (rule (headD (cut 58 w) []) (readForm (front ws)) ∷ readRules ws)
 
 -- ---- a line, by its words: 32 is ' '
 
+-- address, rules
 unfoldable pub readLater : List Bytes → Line
 readLater ws = later (readHex (getD ws 0 [])) (readRules (drop 1 ws))
 
@@ -61,6 +64,7 @@ readWin ws tail =
 unfoldable pub readWords : Bytes → List Bytes → Line
 readWords line ws = cond (eqw (getD ws 1 []) (ascii "WIN")) (readWin (drop 2 ws) (after 32 line 12)) (readCfi (drop 2 ws))
 
+-- words between single spaces
 unfoldable pub readLine : Bytes → Line
 readLine line = readWords line (cut 32 (line ++ 32 ∷ []))
 

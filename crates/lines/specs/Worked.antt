@@ -11,6 +11,7 @@ use Rattle.lines.specs.Lines.{Bytes, register, registerPlus, atRegisterP
 use Rattle.lines.specs.Cut.{cut, after}
 use Rattle.lines.specs.Read.{read, readLine, readWords, readWin, readCfi, readLater, readRules, front, readForm}
 
+-- lines, with six spaces or one, and their text
 pub record Case : Type 0 where
   pub six : Bool
   pub lines : List Line
@@ -76,6 +77,7 @@ cases =
     }
     ∷ []
 
+-- written, well formed, and read back
 abbrev pub passes : Case → Bool
 passes k = eqw (render (k .six) (k .lines)) (k .text) && all lineOk (k .lines) && eqw (render (k .six) (read (k .text))) (k .text)
 

@@ -127,6 +127,7 @@ pdbSkipped last ws = ltb 2147483647 (word ws 2) || repeats last (leaves ws)
 
 -- ---- refusal 6: code start plus prolog size, and plus code size, at most FFFFFFFFh
 
+-- each sum by itself
 unfoldable pub inReach : List ℕ → Bool
 inReach ws = leb (word ws 1 + word ws 3) 4294967295 && leb (word ws 1 + word ws 2) 4294967295
 

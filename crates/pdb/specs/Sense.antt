@@ -20,12 +20,15 @@ use Rattle.entry.specs.Entry.{comesTo, ifWritten, word}
 use Rattle.pdb.specs.Pdb.{program, printable, hasProgram, pdbLayout, leaves, trim, tailText, infoText, infosText, stackInfos, pdbText, pdbJudged, pdbEntry}
 use Rattle.pdb.specs.Index.{layout-program, trim-all, written}
 
+-- 01, Sense: a WIN line is its fields, flag and trimmed tail
 unfoldable pub winLine : List ℕ → StackInfo → Line
 winLine ws i = win i (hasProgram ws) (tailText ws)
 
+-- one for each of the entry's ranges, or one over both
 unfoldable pub winLines : List ℕ → List Line
 winLines ws = map (winLine ws) (stackInfos ws)
 
+-- 01, Sense: the lines of an entry that is written
 unfoldable pub pdbLines : Last → List ℕ → List Line
 pdbLines last ws = ifWritten (pdbJudged last ws) (winLines ws)
 

@@ -79,6 +79,7 @@ cases =
     ∷ record { last = noLast; body = 1 ∷ 9 ∷ 8 ∷ 0 ∷ 0 ∷ 0 ∷ 0 ∷ 0 ∷ 0 ∷ 0 ∷ 1 ∷ 1 ∷ 0 ∷ 0 ∷ 1 ∷ 10 ∷ []; number = 4; text = []; next = 0 }
     ∷ []
 
+-- the entry as it is run, its lines' text, and what it leaves
 abbrev pub passes : Case → Bool
 passes k =
     let e = pdbEntry (k .last) (k .body) in

@@ -11,6 +11,7 @@ use Rattle.x64.specs.X64.{X64·open}
 use Rattle.arm64.specs.Arm64.{Arm64·open}
 use Rattle.translate.specs.Outcome.{AREA, Outcome, entryOf, verdict, walk, walkOf, outcome}
 
+-- a book and a limit, and what the call returns and writes
 pub record Case : Type 0 where
   pub book : List ℕ
   pub limit : ℕ
@@ -102,6 +103,7 @@ cases =
     }
     ∷ []
 
+-- the outcome is the one of the case
 abbrev gives : Outcome → Case → Bool
 gives o k = (eqb (o .number) (k .number) && (eqb (o .entries) (k .entries) && eqb (o .length) (length (k .text)))) && eqw (take (o .length) (o .text)) (k .text)
 

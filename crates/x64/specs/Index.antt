@@ -64,6 +64,7 @@ chain-run ws = infos-run ws (infoCount ws) 4
 
 -- ---- the total
 
+-- what operations add to the total
 unfoldable pub growths : List Op → ℕ
 growths [] = 0
 growths (o ∷ os) = growthOf o + growths os
@@ -72,6 +73,7 @@ growths (o ∷ os) = growthOf o + growths os
 abbrev pub within : ℕ → Op → Bool
 within S o = ltb (valueOf o) (2 ^ 31) && ltb (S + growthOf o) (2 ^ 31)
 
+-- so for each in turn
 unfoldable pub reaches : ℕ → List Op → Bool
 reaches S [] = true
 reaches S (o ∷ os) = within S o && reaches (S + growthOf o) os
@@ -219,9 +221,11 @@ admitted limit ws = cond (x64Layout ws) (cond (x64Skipped limit ws) Skip (cond (
 unfoldable pub chainNumber : List ℕ → ℕ
 chainNumber ws = cond (inReach 8 (chain ws)) (cond (ltb 1 (setCount (chain ws))) 7 0) 6
 
+-- written where neither holds
 abbrev pub chainJudged : List ℕ → Judged
 chainJudged ws = cond (eqb (chainNumber ws) 0) Write (Refuse (chainNumber ws))
 
+-- the first part decides, unless it admits the entry
 abbrev pub then : Judged → Judged → Judged
 then (Refuse n) j = Refuse n
 then Skip j = Skip

@@ -17,15 +17,19 @@ use Rattle.names.specs.Names.{peName}
 use Rattle.x64.specs.X64.{chain, growthOf, valueOf, run, total, opCfa, cfaForm, isMachine, anyMachine, isSet, setCount, inReach, x64Layout}
 use Rattle.x64.specs.Index.{within, reaches, chain-reach, chainNumber}
 
+-- S is 8; nothing else was met
 unfoldable pub scanStart : Scan
 scanStart = record { total = 8; lost = false; set = false; twice = false; frame = 0; place = 0; offset = 0; machine = false }
 
+-- out of reach (refusal 6)
 unfoldable pub lose : Scan → Scan
 lose s = record { total = s .total; lost = true; set = s .set; twice = s .twice; frame = s .frame; place = s .place; offset = s .offset; machine = s .machine }
 
+-- the total is S
 unfoldable pub grown : Scan → ℕ → Scan
 grown s S = record { total = S; lost = s .lost; set = s .set; twice = s .twice; frame = s .frame; place = s .place; offset = s .offset; machine = s .machine }
 
+-- frame register f is set, with frame offset o: the first one and its place are kept, a second is noted (refusal 7)
 unfoldable pub framed : Scan → ℕ → ℕ → Scan
 framed s f o = record {
   total = s .total;
@@ -38,9 +42,11 @@ framed s f o = record {
   machine = s .machine;
 }
 
+-- a machine frame, and the total is S
 unfoldable pub machined : Scan → ℕ → Scan
 machined s S = record { total = S; lost = s .lost; set = s .set; twice = s .twice; frame = s .frame; place = s .place; offset = s .offset; machine = true }
 
+-- an operation in reach, where the total after it is S
 unfoldable pub advance : Scan → Op → ℕ → Scan
 advance s (PushNonVolatile r) S = grown s S
 advance s (Alloc v) S = grown s S
@@ -51,9 +57,11 @@ advance s (PushMachineFrame e) S = machined s S
 advance s Other S = s
 advance s Undecodable S = s
 
+-- once lost, nothing more is looked at
 unfoldable pub scanStep : Scan → Op → Scan
 scanStep s o = cond (s .lost) s (cond (within (s .total) o) (advance s o (s .total + growthOf o)) (lose s))
 
+-- all operations, in the order in which they are run
 unfoldable pub scanned : Scan → List Op → Scan
 scanned s [] = s
 scanned s (o ∷ os) = scanned (scanStep s o) os
@@ -115,6 +123,7 @@ scanned-append s (x ∷ xs) ys = scanned-append (scanStep s x) xs ys
 
 -- ---- what it says of the chain
 
+-- 01, x64 body: the CFA, from the frame register that was set, else from $rsp
 unfoldable pub cfaOf : Scan → Form
 cfaOf s = cond (s .set) (registerPlus (peName (s .frame)) (subℕ (s .place) (s .offset))) (registerPlus (ascii "$rsp") (pos (s .total)))
 
@@ -239,6 +248,7 @@ chain-number ws l = go (reaches 8 (chain ws)) refl
 
 -- ---- the total, and the place where a frame register was set, stay below 2^31
 
+-- both below 2^31
 abbrev pub Small : Scan → Type 0
 Small s = (s .total < 2 ^ 31) × (s .place < 2 ^ 31)
 

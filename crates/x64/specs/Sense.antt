@@ -36,16 +36,18 @@ addedBy (PushMachineFrame code) = 40 + cond code 8 0
 addedBy Other = 0
 addedBy Undecodable = 0
 
+-- over operations run before
 unfoldable pub sum : List Op → ℕ
 sum [] = 0
 sum (o ∷ os) = addedBy o + sum os
 
--- what each operation k gives, where its S is 8 and what the k before it add
 module _ {A : Type 0} where
+  -- what f gives of n numbers from k on, one after the other
   unfoldable pub each : (ℕ → List A) → ℕ → ℕ → List A
   each f k zero = []
   each f k (suc n) = f k ++ each f (suc k) n
 
+  -- 01, Sense: what f gives of each operation k, where its S is 8 plus what the k run before it add
   unfoldable pub sums : (ℕ → Op → List A) → List Op → List A
   sums f os = each (λ k. f (8 + sum (take k os)) (getD os k Other)) 0 (length os)
 
@@ -53,6 +55,7 @@ module _ {A : Type 0} where
 unfoldable pub x64Rules : List Op → List Rule
 x64Rules os = rule cfa (cfaForm (sums opCfa os) (8 + sum os)) ∷ (sums opRules os ++ raRules (anyMachine os))
 
+-- 01, Sense: INIT, its address, size and rules
 unfoldable pub x64Line : List ℕ → Line
 x64Line ws = init (word ws 0) (word ws 1 - word ws 0) (x64Rules (chain ws))
 
@@ -154,6 +157,7 @@ x64-ok ws =
 
 -- ---- an entry's lines
 
+-- 01, Sense: the line of an entry that is written
 unfoldable pub x64Lines : ℕ → List ℕ → List Line
 x64Lines limit ws = ifWritten (x64Judged limit ws) (x64Line ws ∷ [])
 
@@ -177,18 +181,22 @@ x64-entry-ok limit ws = go (x64Judged limit ws)
 
 -- ---- the law of the CFA
 
+-- how many pushes
 unfoldable pub pushes : List Op → ℕ
 pushes [] = 0
 pushes (o ∷ os) = elim o [ PushNonVolatile r ↦ 1 | Alloc v ↦ 0 | SaveRsp r v ↦ 0 | SaveFp r v f o ↦ 0 | SetFpRegister f o ↦ 0 | PushMachineFrame e ↦ 0 | Other ↦ 0 | Undecodable ↦ 0 ] + pushes os
 
+-- what the allocations come to
 unfoldable pub allocations : List Op → ℕ
 allocations [] = 0
 allocations (o ∷ os) = elim o [ PushNonVolatile r ↦ 0 | Alloc v ↦ v | SaveRsp r v ↦ 0 | SaveFp r v f o ↦ 0 | SetFpRegister f o ↦ 0 | PushMachineFrame e ↦ 0 | Other ↦ 0 | Undecodable ↦ 0 ] + allocations os
 
+-- how many machine frames
 unfoldable pub machineFrames : List Op → ℕ
 machineFrames [] = 0
 machineFrames (o ∷ os) = cond (isMachine o) 1 0 + machineFrames os
 
+-- how many of them with an error code
 unfoldable pub errorCodes : List Op → ℕ
 errorCodes [] = 0
 errorCodes (o ∷ os) = elim o [ PushNonVolatile r ↦ 0 | Alloc v ↦ 0 | SaveRsp r v ↦ 0 | SaveFp r v f o ↦ 0 | SetFpRegister f o ↦ 0 | PushMachineFrame e ↦ cond e 1 0 | Other ↦ 0 | Undecodable ↦ 0 ] + errorCodes os

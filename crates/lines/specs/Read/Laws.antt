@@ -20,6 +20,7 @@ use Rattle.lines.specs.declared.StackInfo.{StackInfo}
 
 -- ---- the words of a line
 
+-- a form's words
 unfoldable formWords : Form → List Bytes
 formWords (register r) = r ∷ []
 formWords (registerPlus r n) = r ∷ signed n ∷ ascii "+" ∷ []
@@ -28,14 +29,17 @@ formWords (cfaPlus n) = cfa ∷ signed n ∷ ascii "+" ∷ []
 formWords (atCfaPlus n) = cfa ∷ signed n ∷ ascii "+" ∷ ascii "^" ∷ []
 formWords (atCfaMinus n) = cfa ∷ signed n ∷ ascii "-" ∷ ascii "^" ∷ []
 
+-- each name with its colon, then the form
 unfoldable rulesWords : List Rule → List Bytes
 rulesWords [] = []
 rulesWords (rule n f ∷ rs) = (n ++ ascii ":") ∷ formWords f ++ rulesWords rs
 
+-- six spaces in place of one: five empty words
 abbrev gapWords : Bool → List Bytes
 gapWords true = [] ∷ [] ∷ [] ∷ [] ∷ [] ∷ []
 gapWords false = []
 
+-- 1 with a program
 abbrev flagWord : Bool → Bytes
 flagWord true = ascii "1"
 flagWord false = ascii "0"
@@ -48,11 +52,13 @@ lineWords six (win i p tail) =
     ascii "WIN" ∷ hex (i .ty) ∷ hex (i .start) ∷ hex (i .«code_size») ∷ hex (i .«prolog_size») ∷ hex (i .«epilog_size»)
     ∷ hex (i .«params_size») ∷ hex (i .«saved_regs_size») ∷ hex (i .«locals_size») ∷ hex (i .«max_stack_size») ∷ flagWord p ∷ []
 
+-- a WIN line's tail behind its space
 unfoldable lineTail : Line → Bytes
 lineTail (init a z rs) = []
 lineTail (later a rs) = []
 lineTail (win i p tail) = 32 ∷ tail
 
+-- a line without its newline
 unfoldable lineBody : Bool → Line → Bytes
 lineBody six l = ascii "STACK" ++ (spaced 32 (lineWords six l) ++ lineTail l)
 

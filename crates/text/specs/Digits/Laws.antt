@@ -111,6 +111,7 @@ digits-all p b n t h = digits-ind b (λ m ds. T (all p ds)) h
 abbrev pub isDecimal : ℕ → Bool
 isDecimal c = leb 48 c && leb c 57
 
+-- lower-case
 abbrev pub isHex : ℕ → Bool
 isHex c = isDecimal c || (leb 97 c && leb c 102)
 

@@ -25,12 +25,14 @@ abbrev pub kept : ℕ → List ℕ → List ℕ
 kept zero s = s
 kept (suc n) s = []
 
+-- one entry was tried: its number with 8 and 9, and its text put where it is done
 pub record Stepped (e : Entry) (t : List ℕ) (used : ℕ) (t′ : List ℕ) (number r : ℕ) (next : Last) : Type 0 where
   pub number-is : number ≡ verdict (e .number) (length t) used (length (e .text))
   pub next-is : next ≡ e .next
   pub put : Put t used (kept number (e .text)) t′ r
   pub fits : r ≤ length t
 
+-- all were, up to the first that is refused: what is returned, and the text buffer
 pub record Ended (o : Walked) (t t′ : List ℕ) (r : Returned) : Type 0 where
   pub number-is : r .number ≡ o .number
   pub entries-is : r .entries ≡ o .done
@@ -108,6 +110,7 @@ module _ {b : List ℕ} {l : ℕ} {t₀ : List ℕ} {s : Last} {i : ℕ} {t : Li
 zeros : (n : ℕ) (w a : List ℕ) → n ≤ length w → a ≡ replicate (length (take n w)) 0 → a ++ drop n w ≡ replicate n 0 ++ drop n w
 zeros n w a h e = rw (e, length-take-le n w h)
 
+-- what 1 to 3 return
 abbrev none-done : ℕ → Returned
 none-done n = record { number = n; entries = 0; length = 0 }
 
