@@ -9,10 +9,9 @@ use lib.Dec.{T}
 use Rattle.text.specs.Text.{Put, Left}
 use Rattle.text.specs.Text.Laws.{left-put, left-none}
 use Rattle.text.specs.Tests.{and-l, and-r}
-use Rattle.lines.specs.Lines.{lineText, render}
 use Rattle.arm64.specs.declared.Op.{Op}
 use Rattle.arm64.specs.declared.BreakpadEncoder.{BreakpadEncoder}
-use Rattle.arm64.specs.Arm64.{stepped, valueOf, fits, armRules, armLine, run, inReach}
+use Rattle.arm64.specs.Arm64.{stepped, valueOf, nthLine, run, fits, inReach}
 use Rattle.arm64.specs.Index.{opAt, opsRun, ops-step, Small, Printable, line-bounds}
 
 -- the operation that is run next, where k are left
@@ -51,7 +50,7 @@ pub record LinesLeft (ws : List ℕ) (a z : ℕ) (d : List ℕ) (at : ℕ) (t d�
   pub small : Small e
   pub few : i + k ≤ 1024
   pub reach : T (inReach a i e (opsRun ws 3 k))
-  pub text : Left d at t d₁ p (render true (run a z i e (opsRun ws 3 k)))
+  pub text : Left d at t d₁ p (run a z i e (opsRun ws 3 k))
 
 module _ {ws : List ℕ} {a z : ℕ} {d : List ℕ} {at : ℕ} {t d₁ : List ℕ} {p : ℕ} {e : BreakpadEncoder} {i k : ℕ} (l : LinesLeft ws a z d at t d₁ p e i k) (h : 0 < k) where
   reached : T (fits (a + 4 * i) (valueOf (next ws k)) (stepped e (next ws k)) && inReach a (suc i) (stepped e (next ws k)) (opsRun ws 3 (k - 1)))
@@ -64,9 +63,9 @@ module _ {ws : List ℕ} {a z : ℕ} {d : List ℕ} {at : ℕ} {t d₁ : List �
   pub line-printable : Printable (stepped e (next ws k))
   line-printable = line-bounds (a + 4 * i) e (next ws k) (l .small) line-fits .1
 
-  pub line-turn : {d₂ : List ℕ} {q : ℕ} → Put d₁ p (lineText true (armLine a z i (armRules (stepped e (next ws k))))) d₂ q
+  pub line-turn : {d₂ : List ℕ} {q : ℕ} → Put d₁ p (nthLine a z i (stepped e (next ws k))) d₂ q
       → LinesLeft ws a z d at t d₂ q (stepped e (next ws k)) (i + 1) (k - 1)
-  unfolding run render
+  unfolding run
   line-turn x = rw (add-one i) (record {
     small = line-bounds (a + 4 * i) e (next ws k) (l .small) line-fits .0;
     few = omega (arith, l .few);
@@ -75,5 +74,5 @@ module _ {ws : List ℕ} {a z : ℕ} {d : List ℕ} {at : ℕ} {t d₁ : List �
   })
 
 pub lines-done : {ws : List ℕ} {a z : ℕ} {d : List ℕ} {at : ℕ} {t d₁ : List ℕ} {p : ℕ} {e : BreakpadEncoder} {i k : ℕ} → LinesLeft ws a z d at t d₁ p e i k → k ≤ 0 → Put d at t d₁ p
-unfolding run render opsRun
+unfolding run opsRun
 lines-done {k = k} l h = let q : k ≡ 0 = omega arith in left-none (rw q at (l .text))

@@ -1,4 +1,4 @@
--- An ARM64 body (document 01, "ARM64 body"): its operations from the words, refusals 4 and 6, skipping, and its lines as the encoder runs.
+-- An ARM64 body (document 01, "ARM64 body"): its operations from the words, refusals 4 and 6, skipping, and its text as the encoder runs.
 -- A body's words are ws; a word that is missing reads 0.
 use Prim.Native.Nat.{ℕ, zero, suc, _+_, _*_, _^_}
 use mathlib.Core.Bool.{Bool, true, false, not, cond, _&&_, _||_}
@@ -7,9 +7,8 @@ use lib.ListN.{length}
 use lib.IntN.{pos, subℕ}
 use lib.Dec.{ltb, leb, eqb}
 use Rattle.text.specs.Text.{ascii}
-use Rattle.text.specs.Tests.{eqw}
+use Rattle.text.specs.Digits.{hex, signed, Digits·open}
 use Rattle.names.specs.Names.{letterOf, arm64Name}
-use Rattle.lines.specs.Lines.{Bytes, Rule, rule, register, registerPlus, atCfaPlus, cfa, Line, init, later, render, Lines·open}
 use Rattle.lines.specs.Reach.{inside}
 use Rattle.entry.specs.declared.Judged.{Judged}
 use Rattle.entry.specs.declared.Judged.the-variants.{Refuse, Skip, Write}
@@ -150,53 +149,59 @@ stepped e Other = grown (began e) 0
 stepped e End = began e
 stepped e Undecodable = began e
 
--- ---- the lines
+-- ---- the text, in bytes
 
--- what stands at CFA + place
-unfoldable pub savedRule : Saved → Rule
-savedRule p = rule (arm64Name (p .letter) (p .register)) (atCfaPlus (subℕ (p .a) (p .b)))
+-- ".cfa N + ^": what stands at CFA + place, the place a - b
+abbrev pub placeText : ℕ → ℕ → List ℕ
+placeText a b = ascii ".cfa " ++ signed (subℕ a b) ++ ascii " + ^"
 
--- " .cfa: .sp T +"
-unfoldable pub cfaRule : ℕ → Rule
-cfaRule T = rule cfa (registerPlus (ascii ".sp") (pos T))
+-- a saved register, " .x29: .cfa N + ^"
+unfoldable pub savedText : Saved → List ℕ
+savedText p = ascii " " ++ arm64Name (p .letter) (p .register) ++ ascii ": " ++ placeText (p .a) (p .b)
+
+-- an allocation writes " .cfa: .sp T +"
+unfoldable pub cfaText : ℕ → List ℕ
+cfaText T = ascii " .cfa: .sp " ++ signed (pos T) ++ ascii " +"
 
 -- .ra where x30 lies
-unfoldable pub raRule : Saved → Rule
-raRule p = rule (ascii ".ra") (atCfaPlus (subℕ (p .a) (p .b)))
+unfoldable pub raText : Saved → List ℕ
+raText p = ascii " .ra: " ++ placeText (p .a) (p .b)
 
--- a rule that may be there
-abbrev pub given : Bool → Rule → List Rule
-given t r = cond t (r ∷ []) []
+-- bytes that may be there
+abbrev pub given : Bool → List ℕ → List ℕ
+given t bs = cond t bs []
 
 -- what the operation just run writes: the CFA first
-unfoldable pub armRules : BreakpadEncoder → List Rule
-armRules e =
-    given (e .«cfa_touched») (cfaRule (e .«stack_size»)) ++ given (e .one) (savedRule (e .first)) ++ given (e .two) (savedRule (e .second))
-    ++ given (e .«ra_written») (raRule (e .second))
+unfoldable pub stepText : BreakpadEncoder → List ℕ
+stepText e =
+    given (e .«cfa_touched») (cfaText (e .«stack_size»)) ++ given (e .one) (savedText (e .first)) ++ given (e .two) (savedText (e .second))
+    ++ given (e .«ra_written») (raText (e .second))
 
--- no rule is for this name
-unfoldable pub lacks : Bytes → List Rule → Bool
-lacks n [] = true
-lacks n (rule m f ∷ rs) = not (eqw m n) && lacks n rs
+-- line 0 ends with defaults if unwritten
+unfoldable pub defaultsText : BreakpadEncoder → List ℕ
+defaultsText e = given (not (e .«cfa_touched»)) (ascii " .cfa: .sp") ++ given (not (e .«ra_written»)) (ascii " .ra: .x30")
 
--- what line 0 ends with
-unfoldable pub defaults : List Rule → List Rule
-defaults rs =
-    given (lacks cfa rs) (rule cfa (register (ascii ".sp"))) ++ given (lacks (ascii ".ra") rs) (rule (ascii ".ra") (register (ascii ".x30")))
+-- line 0: INIT, address, size
+unfoldable pub firstLine : ℕ → ℕ → BreakpadEncoder → List ℕ
+firstLine a z e = ascii "STACK CFI INIT " ++ hex a ++ ascii " " ++ hex z ++ stepText e ++ defaultsText e ++ ascii "\n"
 
--- line i of a function at address a of size z
-unfoldable pub armLine : ℕ → ℕ → ℕ → List Rule → Line
-armLine a z zero rs = init a z (rs ++ defaults rs)
-armLine a z (suc i) rs = later (a + 4 * suc i) rs
+-- after the first "STACK CFI" has six spaces
+unfoldable pub laterLine : ℕ → BreakpadEncoder → List ℕ
+laterLine a e = ascii "STACK CFI      " ++ hex a ++ stepText e ++ ascii "\n"
 
--- line i from the state before it
-unfoldable pub run : ℕ → ℕ → ℕ → BreakpadEncoder → List Op → List Line
+-- line i of a function at address a of size z is at address + 4i
+unfoldable pub nthLine : ℕ → ℕ → ℕ → BreakpadEncoder → List ℕ
+nthLine a z zero e = firstLine a z e
+nthLine a z (suc i) e = laterLine (a + 4 * suc i) e
+
+-- the lines from line i on, where the state before it is e
+unfoldable pub run : ℕ → ℕ → ℕ → BreakpadEncoder → List Op → List ℕ
 run a z i e [] = []
-run a z i e (o ∷ os) = armLine a z i (armRules (stepped e o)) ∷ run a z (suc i) (stepped e o) os
+run a z i e (o ∷ os) = nthLine a z i (stepped e o) ++ run a z (suc i) (stepped e o) os
 
--- the lines, with six spaces
+-- the text of an entry
 unfoldable pub armText : List ℕ → List ℕ
-armText ws = render true (run (word ws 0) (word ws 1) 0 startEncoder (ops ws))
+armText ws = run (word ws 0) (word ws 1) 0 startEncoder (ops ws)
 
 -- ---- refusal 4: ranges, and exactly the words that the counts demand
 
@@ -262,5 +267,5 @@ armEntry last ws = comesTo (armJudged ws) (armText ws) last last
 
 -- what to unfold where ARM64 entries are to compute
 unfoldable pub Arm64·open : Type 0
-unfolding Lines·open letterOf arm64Name inside opOf counting ops width above startEncoder began grown single double remembered stepped savedRule cfaRule raRule armRules lacks defaults armLine run armText opFits opsFit armLayout undecodable valueOf savedFits fits inReach armJudged armEntry
+unfolding Digits·open letterOf arm64Name inside opOf counting ops width above startEncoder began grown single double remembered stepped savedText cfaText raText stepText defaultsText firstLine laterLine nthLine run armText opFits opsFit armLayout undecodable valueOf savedFits fits inReach armJudged armEntry
 Arm64·open = Unit {0}

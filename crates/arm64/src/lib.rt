@@ -18,17 +18,17 @@ use lines::put_later;
 use lines::put_rule;
 use text::put_byte;
 ghost use mathlib.Core.Path.{_≡_};
-ghost use mathlib.Core.Bool.{true, not};
+ghost use mathlib.Core.Bool.{not};
+ghost use mathlib.Core.List.{_++_};
 ghost use Prim.Native.Nat.{_+_, _^_, _<_, _≤_};
 ghost use lib.ListN.{getD};
 ghost use lib.IntN.{subℕ};
 ghost use lib.Dec.{T};
 ghost use Rattle.text.specs.Text.{Put, ascii};
-ghost use Rattle.lines.specs.Lines.{rule, register, atCfaPlus, cfa, later, ruleText, rulesText, lineText, render};
 ghost use Rattle.lines.specs.Rules.{ruleName};
 ghost use Rattle.lines.specs.Reach.{inside};
 ghost use Rattle.entry.specs.Entry.{Processed};
-ghost use Rattle.arm64.specs.Arm64.{opOf, width, above, startEncoder, began, grown, single, double, remembered, pair, stepped, valueOf, savedRule, cfaRule, raRule, given, savedFits, fits, armRules, armLine, run, inReach, opFits, armLayout, undecodable, armJudged, armEntry};
+ghost use Rattle.arm64.specs.Arm64.{opOf, width, above, startEncoder, began, grown, single, double, remembered, pair, stepped, valueOf, placeText, savedText, cfaText, raText, given, stepText, firstLine, laterLine, nthLine, run, savedFits, fits, inReach, opFits, armLayout, undecodable, armJudged, armEntry};
 ghost use Rattle.arm64.specs.Index.{opAt, opsRun, counted, Small, Printable};
 
 // An unwind operation with the words that it uses: letter, register and value where it saves.
@@ -392,7 +392,7 @@ fn reaches(body: &[u32], n: usize) -> bool
 // " R: .cfa N + ^"
 fn put_saved(out: &mut [u8], at: usize, name: Name, a: u64, b: u64) -> usize
     requires { ⌜ (a < 2 ^ 63) × (b < 2 ^ 63) ⌝ }
-    ensures { λ r. ⌜ Put (now (out .entry)) at (ruleText (rule (ruleName name) (atCfaPlus (subℕ a b)))) (now (out .exit)) r ⌝ }
+    ensures { λ r. ⌜ Put (now (out .entry)) at (ascii " " ++ ruleName name ++ ascii ": " ++ placeText a b) (now (out .exit)) r ⌝ }
 {
     let x = difference(a, b);
     let form = Form::AtCfaPlus(x);
@@ -402,7 +402,7 @@ fn put_saved(out: &mut [u8], at: usize, name: Name, a: u64, b: u64) -> usize
 // A register where it is saved; nothing where none is.
 fn put_register(out: &mut [u8], at: usize, saved: bool, p: Saved) -> usize
     requires { ⌜ (p .register < 2 ^ 32) × (p .a < 2 ^ 63) × (p .b < 2 ^ 63) ⌝ }
-    ensures { λ r. ⌜ Put (now (out .entry)) at (rulesText (given saved (savedRule p))) (now (out .exit)) r ⌝ }
+    ensures { λ r. ⌜ Put (now (out .entry)) at (given saved (savedText p)) (now (out .exit)) r ⌝ }
 {
     if saved {
         let reg = Reg::Arm64(p.letter, p.register as u32);
@@ -414,7 +414,7 @@ fn put_register(out: &mut [u8], at: usize, saved: bool, p: Saved) -> usize
 
 fn put_ra(out: &mut [u8], at: usize, written: bool, p: Saved) -> usize
     requires { ⌜ (p .a < 2 ^ 63) × (p .b < 2 ^ 63) ⌝ }
-    ensures { λ r. ⌜ Put (now (out .entry)) at (rulesText (given written (raRule p))) (now (out .exit)) r ⌝ }
+    ensures { λ r. ⌜ Put (now (out .entry)) at (given written (raText p)) (now (out .exit)) r ⌝ }
 {
     if written {
         let name = Name::Ra;
@@ -425,7 +425,7 @@ fn put_ra(out: &mut [u8], at: usize, written: bool, p: Saved) -> usize
 
 fn put_cfa(out: &mut [u8], at: usize, touched: bool, total: u64) -> usize
     requires { ⌜ total < 2 ^ 63 ⌝ }
-    ensures { λ r. ⌜ Put (now (out .entry)) at (rulesText (given touched (cfaRule total))) (now (out .exit)) r ⌝ }
+    ensures { λ r. ⌜ Put (now (out .entry)) at (given touched (cfaText total)) (now (out .exit)) r ⌝ }
 {
     if touched {
         let x = difference(total, 0);
@@ -440,7 +440,7 @@ fn put_cfa(out: &mut [u8], at: usize, touched: bool, total: u64) -> usize
 // The rules of the operation just run.
 fn put_rules(out: &mut [u8], at: usize, e: BreakpadEncoder) -> usize
     requires { ⌜ Printable e ⌝ }
-    ensures { λ r. ⌜ Put (now (out .entry)) at (rulesText (armRules e)) (now (out .exit)) r ⌝ }
+    ensures { λ r. ⌜ Put (now (out .entry)) at (stepText e) (now (out .exit)) r ⌝ }
 {
     let p = put_cfa(out, at, e.cfa_touched, e.stack_size);
     let p = put_register(out, p, e.one, e.first);
@@ -449,7 +449,7 @@ fn put_rules(out: &mut [u8], at: usize, e: BreakpadEncoder) -> usize
 }
 
 fn put_default_cfa(out: &mut [u8], at: usize, touched: bool) -> usize
-    ensures { λ r. ⌜ Put (now (out .entry)) at (rulesText (given (not touched) (rule cfa (register (ascii ".sp"))))) (now (out .exit)) r ⌝ }
+    ensures { λ r. ⌜ Put (now (out .entry)) at (given (not touched) (ascii " .cfa: .sp")) (now (out .exit)) r ⌝ }
 {
     if touched {
         return at;
@@ -461,7 +461,7 @@ fn put_default_cfa(out: &mut [u8], at: usize, touched: bool) -> usize
 }
 
 fn put_default_ra(out: &mut [u8], at: usize, written: bool) -> usize
-    ensures { λ r. ⌜ Put (now (out .entry)) at (rulesText (given (not written) (rule (ascii ".ra") (register (ascii ".x30"))))) (now (out .exit)) r ⌝ }
+    ensures { λ r. ⌜ Put (now (out .entry)) at (given (not written) (ascii " .ra: .x30")) (now (out .exit)) r ⌝ }
 {
     if written {
         return at;
@@ -475,7 +475,7 @@ fn put_default_ra(out: &mut [u8], at: usize, written: bool) -> usize
 // The function's first line, with what is taken for granted where it is not written.
 fn put_first_line(out: &mut [u8], at: usize, address: u32, size: u32, e: BreakpadEncoder) -> usize
     requires { ⌜ Printable e ⌝ }
-    ensures { λ r. ⌜ Put (now (out .entry)) at (lineText true (armLine address size 0 (armRules e))) (now (out .exit)) r ⌝ }
+    ensures { λ r. ⌜ Put (now (out .entry)) at (firstLine address size e) (now (out .exit)) r ⌝ }
 {
     let p = put_init(out, at, address as u64, size as u64);
     let p = put_rules(out, p, e);
@@ -486,7 +486,7 @@ fn put_first_line(out: &mut [u8], at: usize, address: u32, size: u32, e: Breakpa
 
 fn put_later_line(out: &mut [u8], at: usize, address: u64, e: BreakpadEncoder) -> usize
     requires { ⌜ Printable e ⌝ }
-    ensures { λ r. ⌜ Put (now (out .entry)) at (lineText true (later address (armRules e))) (now (out .exit)) r ⌝ }
+    ensures { λ r. ⌜ Put (now (out .entry)) at (laterLine address e) (now (out .exit)) r ⌝ }
 {
     let p = put_later(out, at, true, address);
     let p = put_rules(out, p, e);
@@ -495,7 +495,7 @@ fn put_later_line(out: &mut [u8], at: usize, address: u64, e: BreakpadEncoder) -
 
 fn put_line(out: &mut [u8], at: usize, address: u32, size: u32, i: u64, e: BreakpadEncoder) -> usize
     requires { ⌜ (i ≤ 1024) × Printable e ⌝ }
-    ensures { λ r. ⌜ Put (now (out .entry)) at (lineText true (armLine address size i (armRules e))) (now (out .exit)) r ⌝ }
+    ensures { λ r. ⌜ Put (now (out .entry)) at (nthLine address size i e) (now (out .exit)) r ⌝ }
 {
     if i == 0 {
         return put_first_line(out, at, address, size, e);
@@ -506,7 +506,7 @@ fn put_line(out: &mut [u8], at: usize, address: u32, size: u32, i: u64, e: Break
 // The lines of the first n operations, run backwards.
 fn put_lines(out: &mut [u8], at: usize, body: &[u32], n: usize) -> usize
     requires { ⌜ (n ≤ 1024) × T (inReach (getD (now body) 0 0) 0 startEncoder (opsRun (now body) 3 n)) ⌝ }
-    ensures { λ r. ⌜ Put (now (out .entry)) at (render true (run (getD (now (body .entry)) 0 0) (getD (now (body .entry)) 1 0) 0 startEncoder (opsRun (now (body .entry)) 3 n))) (now (out .exit)) r ⌝ }
+    ensures { λ r. ⌜ Put (now (out .entry)) at (run (getD (now (body .entry)) 0 0) (getD (now (body .entry)) 1 0) 0 startEncoder (opsRun (now (body .entry)) 3 n)) (now (out .exit)) r ⌝ }
 {
     let address = word(body, 0);
     let size = word(body, 1);

@@ -1,9 +1,7 @@
 -- `process_pe_arm64`: one case for each judgement; a written entry keeps what `put_lines` requires.
 use mathlib.Core.Path.{refl, sym, ap, _∙_}
-use mathlib.Core.Bool.{true}
 use mathlib.Core.List.{List}
 use Rattle.text.specs.Text.Laws.{put-none, put-as}
-use Rattle.lines.specs.Lines.{render}
 use Rattle.arm64.specs.declared.Op.{Op}
 use Rattle.entry.specs.Entry.{word}
 use Rattle.arm64.specs.Arm64.{opCount, startEncoder, run, armText, armEntry}
@@ -45,10 +43,13 @@ same-length c = search needs
 returns-3 : tie.Need-returns-3
 unfolding armEntry armText
 returns-3 c =
-    rw (← c .before .before .before .before .before .before .before .judge .ensures, c .before .before .before .before .before .enum-told2 .given .1) (record {
+    let c5 = c .before .before .before .before .before in
+    let c7 = c5 .before .before in
+    let ws = c7 .before .before .before .args .body .now in
+    rw (← c7 .judge .ensures, c5 .enum-told2 .given .1) (record {
       number-is = refl;
       next-is = refl;
-      put = put-as (c .before .before .put-lines .ensures) (ap (λ (os : List Op). render true (run (word (c .before .before .before .before .before .before .before .before .before .before .args .body .now) 0) (word (c .before .before .before .before .before .before .before .before .before .before .args .body .now) 1) 0 startEncoder os)) (ap (opsRun (c .before .before .before .before .before .before .before .before .before .before .args .body .now) 3) (c .before .before .before .first-end .ensures) ∙ sym (ops-run (c .before .before .before .before .before .before .before .before .before .before .args .body .now))));
+      put = put-as (c .before .before .put-lines .ensures) (ap (λ (os : List Op). run (word ws 0) (word ws 1) 0 startEncoder os) (ap (opsRun ws 3) (c .before .before .before .first-end .ensures) ∙ sym (ops-run ws)));
     })
 
 pub process-pe-arm64-spec : {M : Type 1} → statement M

@@ -7,10 +7,10 @@ use mir.Facts.{toZ-ofZ}
 use Rattle.text.specs.Text.Laws.{put-as}
 use Rattle.text.specs.Text.{ascii}
 use Rattle.text.specs.Text.Laws.{put-none}
-use Rattle.lines.specs.Lines.{rule, cfa, registerPlus, ruleText, rulesText}
+use Rattle.lines.specs.Lines.{rule, cfa, registerPlus, formText, ruleText}
 use Rattle.lines.specs.Rules.{ruleOf, ruleName, regName, formOf}
-use Rattle.arm64.specs.Arm64.{cfaRule}
-use Rattle.lines.specs.Lines.Laws.{put-one, sub-none}
+use Rattle.arm64.specs.Arm64.{cfaText}
+use Rattle.lines.specs.Lines.Laws.{sub-none}
 use native.Mathlib.Omega.{arith}
 use borrow.Author.Needs.{needs}
 use Rattle.arm64.proofs.put_cfa.Statement.{statement}
@@ -26,13 +26,12 @@ same-length : tie.Need-same-length
 same-length c = search needs
 
 returns : tie.Need-returns
-unfolding cfaRule ruleOf ruleName regName formOf
+unfolding cfaText formText ruleText ruleOf ruleName regName formOf
 returns c =
     let f : SFits w64 (c .before .before .before .before .difference .result) = search needs in
-    rw (c .before .before .before .before .before .if1 .taken) (put-one _ (put-as (c .before .before .put-rule .ensures) (ap (λ (z : ℤ). ruleText (rule cfa (registerPlus (ascii ".sp") z))) (toZ-ofZ f ∙ c .before .before .before .before .difference .ensures ∙ sub-none (c .before .before .before .before .before .before .before .args .total)))))
+    rw (c .before .before .before .before .before .if1 .taken) (put-as (c .before .before .put-rule .ensures) (ap (λ (z : ℤ). ruleText (rule cfa (registerPlus (ascii ".sp") z))) (toZ-ofZ f ∙ c .before .before .before .before .difference .ensures ∙ sub-none (c .before .before .before .before .before .before .before .args .total))))
 
 returns-2 : tie.Need-returns-2
-unfolding rulesText
 returns-2 c = rw (c .if1 .left) (put-none (omega arith) (omega arith))
 
 pub put-cfa-spec : {M : Type 1} → statement M

@@ -1,6 +1,7 @@
--- `put_first_line`: the flags say which names the rules lack (`put-first`).
-use Rattle.arm64.specs.Arm64.{armLine}
-use Rattle.arm64.proofs.Rules.{put-first}
+-- `put_first_line`: five parts, joined.
+use Rattle.text.specs.Text.Laws.{_⨾_}
+use Rattle.lines.specs.Lines.{initText}
+use Rattle.arm64.specs.Arm64.{defaultsText, firstLine}
 use borrow.Author.Needs.{needs}
 use Rattle.arm64.proofs.put_first_line.Statement.{statement}
 use Rattle.arm64.proofs.put_first_line.Tie as tie
@@ -24,8 +25,14 @@ same-length : tie.Need-same-length
 same-length c = search needs
 
 returns : tie.Need-returns
-unfolding armLine
-returns c = put-first (c .before .before .before .before .before .before .before .before .before .before .before .before .before .before .before .before .before .before .before .before .before .args .address) (c .before .before .before .before .before .before .before .before .before .before .before .before .before .before .before .before .before .before .before .before .before .args .size) (c .before .before .before .before .before .before .before .before .before .before .before .before .before .before .before .before .before .before .before .before .before .args .e) (c .before .before .before .before .before .before .before .before .before .before .before .before .before .before .before .before .before .before .put-init .ensures) (c .before .before .before .before .before .before .before .before .before .before .before .before .before .before .put-rules .ensures) (c .before .before .before .before .before .before .before .before .before .before .put-default-cfa .ensures) (c .before .before .before .before .before .before .put-default-ra .ensures) (c .before .before .put-byte .ensures)
+unfolding initText defaultsText firstLine
+returns c =
+    let c2 = c .before .before in
+    let c6 = c2 .before .before .before .before in
+    let c10 = c6 .before .before .before .before in
+    let c14 = c10 .before .before .before .before in
+    let c18 = c14 .before .before .before .before in
+    c18 .put-init .ensures ⨾ c14 .put-rules .ensures ⨾ (c10 .put-default-cfa .ensures ⨾ c6 .put-default-ra .ensures) ⨾ c2 .put-byte .ensures
 
 pub put-first-line-spec : {M : Type 1} → statement M
 put-first-line-spec =

@@ -1,5 +1,6 @@
 -- `put_later_line`: three parts, joined.
-use Rattle.lines.specs.Lines.{lineText}
+use Rattle.lines.specs.Lines.{laterText}
+use Rattle.arm64.specs.Arm64.{laterLine}
 use Rattle.text.specs.Text.Laws.{_⨾_}
 use borrow.Author.Needs.{needs}
 use Rattle.arm64.proofs.put_later_line.Statement.{statement}
@@ -18,8 +19,12 @@ same-length : tie.Need-same-length
 same-length c = search needs
 
 returns : tie.Need-returns
-unfolding lineText
-returns c = c .before .before .before .before .before .before .before .before .before .before .put-later .ensures ⨾ c .before .before .before .before .before .before .put-rules .ensures ⨾ c .before .before .put-byte .ensures
+unfolding laterText laterLine
+returns c =
+    let c2 = c .before .before in
+    let c6 = c2 .before .before .before .before in
+    let c10 = c6 .before .before .before .before in
+    c10 .put-later .ensures ⨾ c6 .put-rules .ensures ⨾ c2 .put-byte .ensures
 
 pub put-later-line-spec : {M : Type 1} → statement M
 put-later-line-spec =

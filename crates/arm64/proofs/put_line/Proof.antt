@@ -1,13 +1,17 @@
 -- `put_line`: by whether it is line 0.
-use mathlib.Core.Path.{ap, sym}
+use mathlib.Core.Path.{_≡_, refl}
+use Prim.Native.Nat.{ℕ, zero, suc, _+_, _*_}
 use Rattle.text.specs.Text.Laws.{put-as}
-use mathlib.Core.Bool.{true}
-use Rattle.lines.specs.Lines.{lineText}
-use Rattle.arm64.specs.Arm64.{armRules}
-use Rattle.arm64.proofs.Rules.{arm-later}
+use Rattle.arm64.specs.declared.BreakpadEncoder.{BreakpadEncoder}
+use Rattle.arm64.specs.Arm64.{laterLine, nthLine}
 use borrow.Author.Needs.{needs}
 use Rattle.arm64.proofs.put_line.Statement.{statement}
 use Rattle.arm64.proofs.put_line.Tie as tie
+
+later : (a z i : ℕ) (e : BreakpadEncoder) → (i ≡ 0 → ⊥) → laterLine (a + 4 * i) e ≡ nthLine a z i e
+unfolding nthLine
+later a z zero e h = absurd (h refl)
+later a z (suc i) e h = refl
 
 put-first-line-requires : tie.Need-put-first-line-requires
 put-first-line-requires c κs = search needs
@@ -16,6 +20,7 @@ same-length : tie.Need-same-length
 same-length c = search needs
 
 returns : tie.Need-returns
+unfolding nthLine
 returns c = rw (c .before .before .before .before .if1 .taken) (c .before .before .put-first-line .ensures)
 
 mul-put-later-line : tie.Need-mul-put-later-line
@@ -31,7 +36,10 @@ same-length-2 : tie.Need-same-length-2
 same-length-2 c = search needs
 
 returns-2 : tie.Need-returns-2
-returns-2 c = put-as (c .before .before .put-later-line .ensures) (ap (lineText true) (sym (arm-later (c .before .before .before .before .before .before .args .address) (c .before .before .before .before .before .before .args .size) (c .before .before .before .before .before .before .args .i) (armRules (c .before .before .before .before .before .before .args .e)) (c .before .before .before .before .if1 .left))))
+returns-2 c =
+    let c4 = c .before .before .before .before in
+    let a = c4 .before .before .args in
+    put-as (c .before .before .put-later-line .ensures) (later (a .address) (a .size) (a .i) (a .e) (c4 .if1 .left))
 
 pub put-line-spec : {M : Type 1} → statement M
 put-line-spec =

@@ -1,7 +1,5 @@
 -- `put_lines`: what is left to put is the lines of the operations left (`LinesLeft`).
-use mathlib.Core.Bool.{true}
 use Rattle.text.specs.Text.Laws.{left-all, put-length}
-use Rattle.lines.specs.Lines.{render}
 use Rattle.entry.specs.Entry.{word}
 use Rattle.arm64.specs.Arm64.{startEncoder, run}
 use Rattle.arm64.specs.Index.{opsRun, small-start}
@@ -12,7 +10,7 @@ use Rattle.arm64.proofs.put_lines.Statement.{statement}
 use Rattle.arm64.proofs.put_lines.Tie as tie
 
 abbrev Inv-loop : tie.InvT-loop
-Inv-loop out₀ at body n address size e₀ p₀ i₀ k₀ out e p i k = LinesLeft body (word body 0) (word body 1) out₀ at (render true (run (word body 0) (word body 1) 0 startEncoder (opsRun body 3 n))) out p e i k
+Inv-loop out₀ at body n address size e₀ p₀ i₀ k₀ out e p i k = LinesLeft body (word body 0) (word body 1) out₀ at (run (word body 0) (word body 1) 0 startEncoder (opsRun body 3 n)) out p e i k
 
 abbrev μ-loop : tie.MeasureT-loop
 μ-loop out₀ at body n address size e₀ p₀ i₀ k₀ out e p i k = k

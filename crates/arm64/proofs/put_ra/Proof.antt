@@ -1,9 +1,7 @@
 -- `put_ra`: by the flag.
 use Rattle.text.specs.Text.Laws.{put-none}
-use Rattle.lines.specs.Lines.{rulesText}
 use Rattle.lines.specs.Rules.{ruleName}
-use Rattle.arm64.specs.Arm64.{raRule}
-use Rattle.lines.specs.Lines.Laws.{put-one}
+use Rattle.arm64.specs.Arm64.{raText}
 use native.Mathlib.Omega.{arith}
 use borrow.Author.Needs.{needs}
 use Rattle.arm64.proofs.put_ra.Statement.{statement}
@@ -16,11 +14,10 @@ same-length : tie.Need-same-length
 same-length c = search needs
 
 returns : tie.Need-returns
-unfolding raRule ruleName
-returns c = rw (c .before .before .before .before .if1 .taken) (put-one _ (c .before .before .put-saved .ensures))
+unfolding raText ruleName
+returns c = rw (c .before .before .before .before .if1 .taken) (c .before .before .put-saved .ensures)
 
 returns-2 : tie.Need-returns-2
-unfolding rulesText
 returns-2 c = rw (c .if1 .left) (put-none (omega arith) (omega arith))
 
 pub put-ra-spec : {M : Type 1} → statement M

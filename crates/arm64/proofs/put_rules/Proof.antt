@@ -1,6 +1,6 @@
 -- `put_rules`: four parts, joined.
-use Rattle.arm64.specs.Arm64.{armRules}
-use Rattle.arm64.proofs.Rules.{put-four}
+use Rattle.text.specs.Text.Laws.{_⨾_}
+use Rattle.arm64.specs.Arm64.{stepText}
 use borrow.Author.Needs.{needs}
 use Rattle.arm64.proofs.put_rules.Statement.{statement}
 use Rattle.arm64.proofs.put_rules.Tie as tie
@@ -21,8 +21,13 @@ same-length : tie.Need-same-length
 same-length c = search needs
 
 returns : tie.Need-returns
-unfolding armRules
-returns c = put-four _ _ _ _ (c .before .before .before .before .before .before .before .before .before .before .before .before .before .before .put-cfa .ensures) (c .before .before .before .before .before .before .before .before .before .before .put-register .ensures) (c .before .before .before .before .before .before .put-register2 .ensures) (c .before .before .put-ra .ensures)
+unfolding stepText
+returns c =
+    let c2 = c .before .before in
+    let c6 = c2 .before .before .before .before in
+    let c10 = c6 .before .before .before .before in
+    let c14 = c10 .before .before .before .before in
+    c14 .put-cfa .ensures ⨾ c10 .put-register .ensures ⨾ c6 .put-register2 .ensures ⨾ c2 .put-ra .ensures
 
 pub put-rules-spec : {M : Type 1} → statement M
 put-rules-spec =

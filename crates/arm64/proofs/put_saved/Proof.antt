@@ -5,7 +5,7 @@ use mir.Syntax.{w64}
 use mir.Val.{SFits}
 use mir.Facts.{toZ-ofZ}
 use Rattle.text.specs.Text.Laws.{put-as}
-use Rattle.lines.specs.Lines.{rule, atCfaPlus, ruleText}
+use Rattle.lines.specs.Lines.{rule, atCfaPlus, formText, ruleText}
 use Rattle.lines.specs.Rules.{ruleOf, ruleName, formOf}
 use borrow.Author.Needs.{needs}
 use Rattle.arm64.proofs.put_saved.Statement.{statement}
@@ -21,7 +21,7 @@ same-length : tie.Need-same-length
 same-length c = search needs
 
 returns : tie.Need-returns
-unfolding ruleOf formOf
+unfolding formText ruleText ruleOf formOf
 returns c =
     let f : SFits w64 (c .before .before .before .before .difference .result) = search needs in
     put-as (c .before .before .put-rule .ensures) (ap (λ (z : ℤ). ruleText (rule (ruleName (c .before .before .before .before .before .before .args .name)) (atCfaPlus z))) (toZ-ofZ f ∙ c .before .before .before .before .difference .ensures))
