@@ -4,17 +4,16 @@ use Prim.Native.Nat.{ℕ, zero, suc, _+_, _-_, _*_, _≤_, _<_}
 use native.Mathlib.Omega.{arith}
 use native.Mathlib.Numerals.{add-one}
 use mathlib.Core.Bool.{Bool, true, false, not, cond, _&&_}
-use mathlib.Core.List.{List, [], _∷_, _++_, append-assoc, reverse, reverseAux, reverse-append, reverse-reverse}
+use mathlib.Core.List.{List, [], _∷_, _++_, reverse, reverseAux, reverse-append, reverse-reverse}
 use borrow.Author.Tests.{ne-eqb, eq-eqb}
 use lib.ListN.{length}
 use lib.Dec.{T, leb, eqb, leb→le, eqb→eq}
 use Rattle.text.specs.Tests.{and-l, and-r, both, all, one-less}
-use Rattle.lines.specs.declared.StackInfo.{StackInfo}
 use Rattle.entry.specs.declared.Judged.the-variants.{Write}
 use Rattle.entry.specs.declared.Last.{Last}
 use Rattle.pdb.specs.declared.Range.{Range}
 use Rattle.entry.specs.Entry.{word, only-written}
-use Rattle.pdb.specs.Pdb.{startOf, endOf, rangeAt, ranges, wordsFrom, prologs, codes, program, sizesFit, flagsFit, hasProgram, lengthFits, countsFit, rangeFits, apart, differ, rangesFit, printable, restFits, pdbLayout, pdbSkipped, inReach, lead, trim, infoText, infosText, contiguous, pdbJudged}
+use Rattle.pdb.specs.Pdb.{startOf, endOf, rangeAt, ranges, wordsFrom, prologs, codes, program, sizesFit, flagsFit, hasProgram, lengthFits, countsFit, rangeFits, apart, differ, rangesFit, printable, restFits, pdbLayout, pdbSkipped, inReach, lead, trim, contiguous, pdbJudged}
 use Rattle.pdb.specs.declared.Found.{Found}
 use Rattle.pdb.specs.Sorted.{step, found}
 
@@ -113,11 +112,6 @@ pub ranges-length : (ws : List ℕ) (a n : ℕ) → length (ranges ws a n) ≡ n
 unfolding ranges
 ranges-length ws a zero = refl
 ranges-length ws a (suc n) = ap suc (ranges-length ws (a + 2) n)
-
-pub infos-append : (ws : List ℕ) (xs ys : List StackInfo) → infosText ws (xs ++ ys) ≡ infosText ws xs ++ infosText ws ys
-unfolding infosText
-infos-append ws [] ys = refl
-infos-append ws (x ∷ xs) ys = rw (infos-append ws xs ys) (sym (append-assoc (infoText ws x) (infosText ws xs) (infosText ws ys)))
 
 -- ---- where the lists lie
 

@@ -5,14 +5,12 @@
 --     then the prolog ranges, the code ranges and the program's bytes.
 use Prim.Native.Nat.{ℕ, zero, suc, _+_, _-_, _*_}
 use mathlib.Core.Bool.{Bool, true, false, not, cond, _&&_, _||_}
-use mathlib.Core.List.{List, [], _∷_, _++_, map, reverse}
+use mathlib.Core.List.{List, [], _∷_, _++_, reverse}
 use lib.ListN.{length}
 use lib.Dec.{ltb, leb, eqb}
 use Rattle.text.specs.Text.{ascii}
 use Rattle.text.specs.Tests.{all}
-use Rattle.text.specs.Digits.{hex}
-use Rattle.lines.specs.declared.StackInfo.{StackInfo}
-use Rattle.lines.specs.Lines.{winText, Lines·open}
+use Rattle.text.specs.Digits.{hex, Digits·open}
 use Rattle.entry.specs.declared.Judged.{Judged}
 use Rattle.entry.specs.declared.Judged.the-variants.{Refuse, Skip, Write}
 use Rattle.entry.specs.declared.Last.{Last}
@@ -150,28 +148,19 @@ tailText ws = cond (eqb (word ws 10) 1) (cond (eqb (word ws 11) 1) (trim (progra
 unfoldable pub maxStack : List ℕ → ℕ
 maxStack ws = cond (eqb (word ws 7) 1) (word ws 8) 0
 
--- the nine numbers of the line from s up to e, with prolog size p
-unfoldable pub infoOf : List ℕ → ℕ → ℕ → ℕ → StackInfo
-infoOf ws s e p = record {
-  ty = word ws 0;
-  start = s;
-  «code_size» = e - s;
-  «prolog_size» = p;
-  «epilog_size» = 0;
-  «params_size» = word ws 4;
-  «saved_regs_size» = word ws 5;
-  «locals_size» = word ws 6;
-  «max_stack_size» = maxStack ws;
-}
+-- a number in hexadecimal and a space
+abbrev pub field : ℕ → List ℕ
+field n = hex n ++ ascii " "
 
--- a line: its numbers, flag and tail
-unfoldable pub infoText : List ℕ → StackInfo → List ℕ
-infoText ws i = winText i (hasProgram ws) ++ tailText ws ++ ascii "\n"
+-- the nine numbers of the line from s up to e with prolog size p, then the flag (1 with program and table) and a space
+unfoldable pub numbersText : List ℕ → ℕ → ℕ → ℕ → List ℕ
+numbersText ws s e p =
+    ascii "STACK WIN " ++ field (word ws 0) ++ field s ++ field (e - s) ++ field p ++ field 0
+    ++ field (word ws 4) ++ field (word ws 5) ++ field (word ws 6) ++ field (maxStack ws) ++ cond (hasProgram ws) (ascii "1 ") (ascii "0 ")
 
--- lines one after the other
-unfoldable pub infosText : List ℕ → List StackInfo → List ℕ
-infosText ws [] = []
-infosText ws (i ∷ is) = infoText ws i ++ infosText ws is
+-- that line, with its tail
+unfoldable pub rangeText : List ℕ → ℕ → ℕ → ℕ → List ℕ
+rangeText ws s e p = numbersText ws s e p ++ tailText ws ++ ascii "\n"
 
 -- ---- the lines
 
@@ -190,8 +179,9 @@ unfoldable pub prologOf : Bool → Range → ℕ
 prologOf prolog r = cond prolog (endOf r - startOf r) 0
 
 -- a line for each range
-unfoldable pub rangeInfos : List ℕ → Bool → List Range → List StackInfo
-rangeInfos ws prolog rs = map (λ (r : Range). infoOf ws (startOf r) (endOf r) (prologOf prolog r)) rs
+unfoldable pub rangesText : List ℕ → Bool → List Range → List ℕ
+rangesText ws prolog [] = []
+rangesText ws prolog (r ∷ rs) = rangeText ws (startOf r) (endOf r) (prologOf prolog r) ++ rangesText ws prolog rs
 
 -- one prolog range, ending where the only code range starts
 unfoldable pub contiguous : List Range → List Range → Bool
@@ -202,18 +192,14 @@ contiguous (p ∷ []) (c ∷ d ∷ cs) = false
 contiguous (p ∷ q ∷ ps) cs = false
 
 -- one line over both, its prolog size the prolog range's length
-unfoldable pub bothInfo : List ℕ → Range → Range → StackInfo
-bothInfo ws p c = infoOf ws (startOf p) (endOf c) (endOf p - startOf p)
+unfoldable pub bothText : List ℕ → Range → Range → List ℕ
+bothText ws p c = rangeText ws (startOf p) (endOf c) (endOf p - startOf p)
 
--- the lines' numbers: of one over both, or else of one for each range, prologs first
-unfoldable pub stackInfos : List ℕ → List StackInfo
-stackInfos ws = cond (contiguous (prologs ws) (codes ws))
-    (bothInfo ws (rangeAt ws 15) (rangeAt ws 17) ∷ [])
-    (rangeInfos ws true (sorted (prologs ws)) ++ rangeInfos ws false (sorted (codes ws)))
-
--- the lines of an entry
+-- the lines of an entry: one over both, or else one for each range, prologs first
 unfoldable pub pdbText : List ℕ → List ℕ
-pdbText ws = infosText ws (stackInfos ws)
+pdbText ws = cond (contiguous (prologs ws) (codes ws))
+    (bothText ws (rangeAt ws 15) (rangeAt ws 17))
+    (rangesText ws true (sorted (prologs ws)) ++ rangesText ws false (sorted (codes ws)))
 
 -- ---- one entry: 4, skipping, 6; it leaves its own words to the next where it is written
 
@@ -227,5 +213,5 @@ pdbEntry last ws = comesTo (pdbJudged last ws) (pdbText ws) last (leaves ws)
 
 -- what to unfold where PDB entries are to compute
 unfoldable pub Pdb·open : Type 0
-unfolding Lines·open rangeAt ranges wordsFrom prologs codes program sizesFit flagsFit hasProgram lengthFits countsFit rangeFits apart differ rangesFit printable restFits pdbLayout leaves repeats pdbSkipped inReach lead trim tailText maxStack infoOf infoText infosText insert sorted prologOf rangeInfos contiguous bothInfo stackInfos pdbText pdbJudged pdbEntry
+unfolding Digits·open rangeAt ranges wordsFrom prologs codes program sizesFit flagsFit hasProgram lengthFits countsFit rangeFits apart differ rangesFit printable restFits pdbLayout leaves repeats pdbSkipped inReach lead trim tailText maxStack numbersText rangeText insert sorted prologOf rangesText contiguous bothText pdbText pdbJudged pdbEntry
 Pdb·open = Unit {0}

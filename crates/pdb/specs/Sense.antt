@@ -1,24 +1,61 @@
 -- The sense of a PDB entry (document 01, "Sense"): its WIN lines, each its nine numbers, the flag and the trimmed tail.
 -- Proved below: an entry's text is these lines' text, and no tail holds a newline.
-use mathlib.Core.Path.{_≡_, refl, ap}
-use Prim.Native.Nat.{ℕ, _≤_}
+use mathlib.Core.Path.{_≡_, refl, sym, _∙_}
+use Prim.Native.Nat.{ℕ, _-_, _≤_}
 use native.Mathlib.Omega.{arith}
 use mathlib.Core.Bool.{Bool, true, false, not, cond}
-use mathlib.Core.List.{List, [], _∷_, _++_, map}
+use mathlib.Core.List.{List, [], _∷_, _++_, append-nil, map, map-append}
 use lib.Dec.{T, leb, eqb, leb→le}
 use borrow.Author.Tests.{ne-eqb}
+use Rattle.text.specs.Text.{ascii}
 use Rattle.text.specs.Tests.{all, all-mono, and-l, both}
 use Rattle.text.specs.Digits.{digit, hex}
 use Rattle.text.specs.Digits.Laws.{hex-all}
 use Rattle.lines.specs.declared.StackInfo.{StackInfo}
-use Rattle.lines.specs.Lines.{Line, win, lineText, render, lineOk}
-use Rattle.lines.specs.Lines.Laws.{render-none}
+use Rattle.lines.specs.Lines.{Line, win, flag, winText, lineText, render, lineOk}
+use Rattle.lines.specs.Lines.Laws.{render-append, render-none}
 use Rattle.entry.specs.declared.Judged.{Judged}
 use Rattle.entry.specs.declared.Judged.the-variants.{Refuse, Skip, Write}
 use Rattle.entry.specs.declared.Last.{Last}
 use Rattle.entry.specs.Entry.{comesTo, ifWritten, word}
-use Rattle.pdb.specs.Pdb.{program, printable, hasProgram, pdbLayout, leaves, trim, tailText, infoText, infosText, stackInfos, pdbText, pdbJudged, pdbEntry}
+use Rattle.pdb.specs.declared.Range.{Range}
+-- the body, for the sense
+use Rattle.pdb.specs.Pdb.{startOf, endOf, rangeAt, prologs, codes, hasProgram, tailText, maxStack, sorted, prologOf, contiguous, pdbJudged}
+-- the text, for the proofs
+use Rattle.pdb.specs.Pdb.{program, printable, pdbLayout, leaves, trim, numbersText, rangeText, rangesText, bothText, pdbText, pdbEntry}
 use Rattle.pdb.specs.Index.{layout-program, trim-all, written}
+
+-- ---- the nine numbers as fields
+
+-- those of the line from s up to e, with prolog size p
+unfoldable pub infoOf : List ℕ → ℕ → ℕ → ℕ → StackInfo
+infoOf ws s e p = record {
+  ty = word ws 0;
+  start = s;
+  «code_size» = e - s;
+  «prolog_size» = p;
+  «epilog_size» = 0;
+  «params_size» = word ws 4;
+  «saved_regs_size» = word ws 5;
+  «locals_size» = word ws 6;
+  «max_stack_size» = maxStack ws;
+}
+
+-- those of each range's line
+unfoldable pub rangeInfos : List ℕ → Bool → List Range → List StackInfo
+rangeInfos ws prolog rs = map (λ (r : Range). infoOf ws (startOf r) (endOf r) (prologOf prolog r)) rs
+
+-- those of one line over both, its prolog size the prolog range's length
+unfoldable pub bothInfo : List ℕ → Range → Range → StackInfo
+bothInfo ws p c = infoOf ws (startOf p) (endOf c) (endOf p - startOf p)
+
+-- of one over both, or else of one for each range, prologs first
+unfoldable pub stackInfos : List ℕ → List StackInfo
+stackInfos ws = cond (contiguous (prologs ws) (codes ws))
+    (bothInfo ws (rangeAt ws 15) (rangeAt ws 17) ∷ [])
+    (rangeInfos ws true (sorted (prologs ws)) ++ rangeInfos ws false (sorted (codes ws)))
+
+-- ---- the lines
 
 -- 01, Sense: a WIN line is its fields, flag and trimmed tail
 unfoldable pub winLine : List ℕ → StackInfo → Line
@@ -34,14 +71,42 @@ pdbLines last ws = ifWritten (pdbJudged last ws) (winLines ws)
 
 -- ---- the text is these lines' text
 
-infos-render : (ws : List ℕ) (is : List StackInfo) → infosText ws is ≡ render false (map (winLine ws) is)
-unfolding infosText infoText render lineText winLine
-infos-render ws [] = refl
-infos-render ws (i ∷ is) = ap (λ (t : List ℕ). infoText ws i ++ t) (infos-render ws is)
+flag-text : (t : Bool) → flag t ≡ cond t (ascii "1 ") (ascii "0 ")
+flag-text true = refl
+flag-text false = refl
+
+pub win-text : (ws : List ℕ) (s e p : ℕ) → winText (infoOf ws s e p) (hasProgram ws) ≡ numbersText ws s e p
+unfolding winText infoOf numbersText
+win-text ws s e p = rw (flag-text (hasProgram ws))
+
+line-text : (ws : List ℕ) (s e p : ℕ) → rangeText ws s e p ≡ lineText false (winLine ws (infoOf ws s e p))
+unfolding rangeText lineText winLine
+line-text ws s e p = rw (win-text ws s e p)
+
+ranges-text : (ws : List ℕ) (prolog : Bool) (rs : List Range) → rangesText ws prolog rs ≡ render false (map (winLine ws) (rangeInfos ws prolog rs))
+unfolding rangesText rangeInfos render
+ranges-text ws prolog [] = refl
+ranges-text ws prolog (r ∷ rs) = rw (line-text ws (startOf r) (endOf r) (prologOf prolog r), ranges-text ws prolog rs)
+
+both-text : (ws : List ℕ) (p c : Range) → bothText ws p c ≡ render false (winLine ws (bothInfo ws p c) ∷ [])
+unfolding bothText bothInfo render
+both-text ws p c = line-text ws (startOf p) (endOf c) (endOf p - startOf p) ∙ sym (append-nil _)
+
+lists-text : (ws : List ℕ) (ps cs : List Range)
+    → rangesText ws true ps ++ rangesText ws false cs ≡ render false (map (winLine ws) (rangeInfos ws true ps ++ rangeInfos ws false cs))
+lists-text ws ps cs =
+    let is : List StackInfo = rangeInfos ws true ps in
+    let js : List StackInfo = rangeInfos ws false cs in
+    rw (ranges-text ws true ps, ranges-text ws false cs, map-append (winLine ws) is js) (sym (render-append false (map (winLine ws) is) (map (winLine ws) js)))
 
 pub pdb-text : (ws : List ℕ) → pdbText ws ≡ render false (winLines ws)
-unfolding pdbText winLines
-pdb-text ws = infos-render ws (stackInfos ws)
+unfolding pdbText winLines stackInfos
+pdb-text ws = go (contiguous (prologs ws) (codes ws))
+  where
+    go : (t : Bool) → cond t (bothText ws (rangeAt ws 15) (rangeAt ws 17)) (rangesText ws true (sorted (prologs ws)) ++ rangesText ws false (sorted (codes ws)))
+        ≡ render false (map (winLine ws) (cond t (bothInfo ws (rangeAt ws 15) (rangeAt ws 17) ∷ []) (rangeInfos ws true (sorted (prologs ws)) ++ rangeInfos ws false (sorted (codes ws)))))
+    go true = both-text ws (rangeAt ws 15) (rangeAt ws 17)
+    go false = lists-text ws (sorted (prologs ws)) (sorted (codes ws))
 
 pub pdb-entry-text : (last : Last) (ws : List ℕ) → pdbEntry last ws .text ≡ render false (pdbLines last ws)
 unfolding pdbEntry pdbLines

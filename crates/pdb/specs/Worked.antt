@@ -5,11 +5,11 @@ use mathlib.Core.List.{List, [], _∷_, _++_}
 use lib.Dec.{T, eqb}
 use Rattle.text.specs.Text.{ascii}
 use Rattle.text.specs.Tests.{all, eqw}
-use Rattle.lines.specs.Lines.{render}
+use Rattle.lines.specs.Lines.{render, Lines·open}
 use Rattle.entry.specs.declared.Last.{Last}
 use Rattle.entry.specs.Entry.{noLast}
 use Rattle.pdb.specs.Pdb.{pdbEntry, Pdb·open}
-use Rattle.pdb.specs.Sense.{pdbLines, winLine, winLines}
+use Rattle.pdb.specs.Sense.{infoOf, rangeInfos, bothInfo, stackInfos, winLine, winLines, pdbLines}
 
 -- a body, after what the entries before it left; its refusal's number or 0, its text, and the start that it leaves to the next
 pub record Case : Type 0 where
@@ -86,5 +86,5 @@ passes k =
     eqb (e .number) (k .number) && (eqw (e .text) (k .text) && (eqw (render false (pdbLines (k .last) (k .body))) (k .text) && eqb (e .next .start) (k .next)))
 
 worked : T (all passes cases)
-unfolding cases Pdb·open pdbLines winLine winLines
+unfolding cases Pdb·open Lines·open infoOf rangeInfos bothInfo stackInfos winLine winLines pdbLines
 worked = tt
