@@ -136,7 +136,6 @@ fn numbers(t: &mut Tally, output: &str) {
     let signed: Vec<String> = signed.iter().map(|x| format!("signed {x}")).collect();
     t.lines(output, "signed", &signed);
 
-    t.lines(output, "part", &[format!("part {}", &"STACK CFI INIT "[6..9])]);
     let measured = |x: u64| format!("measured {}", format!("{x:x}").len());
     t.lines(output, "measured", &[measured(0), measured(u64::MAX)]);
 }

@@ -210,18 +210,7 @@ fn show_signed_numbers() {
     }
 }
 
-// ---- parts and measures
-
-fn part(out: &mut [u8]) -> usize {
-    let p = put_bytes(out, 0, b"part ");
-    text::put_part(out, p, b"STACK CFI INIT ", 6, 9)
-}
-
-fn show_part() {
-    let mut line = [0u8; 64];
-    let n = part(&mut line);
-    show(&line, n);
-}
+// ---- measures
 
 fn measured(out: &mut [u8], n: usize) -> usize {
     let p = put_bytes(out, 0, b"measured ");
@@ -350,7 +339,6 @@ fn main() {
     show_powers_of_2();
     show_powers_of_10();
     show_signed_numbers();
-    show_part();
     show_measured(0);
     show_measured(0xffff_ffff_ffff_ffff);
     show_rules();

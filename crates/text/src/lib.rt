@@ -3,8 +3,8 @@
 // so that the same function measures (into an empty part) and writes.
 ghost use mathlib.Core.Path.{_≡_};
 ghost use mathlib.Core.List.{[], _∷_};
-ghost use Prim.Native.Nat.{_-_, _<_, _≤_};
-ghost use lib.ListN.{length, take, drop};
+ghost use Prim.Native.Nat.{_<_, _≤_};
+ghost use lib.ListN.{length};
 ghost use lib.IntN.{natAbs};
 ghost use Rattle.text.specs.Text.{Put};
 ghost use Rattle.text.specs.Digits.{digit, digits, hex, decimal, signed};
@@ -52,14 +52,6 @@ fn put_bytes_fitting(out: &mut [u8], at: usize, src: &[u8]) -> usize
         i += 1;
     }
     p
-}
-
-// The bytes of `src` from `a` up to `e`.
-pub fn put_part(out: &mut [u8], at: usize, src: &[u8], a: usize, e: usize) -> usize
-    requires { ⌜ (a ≤ e) × (e ≤ length (now src)) ⌝ }
-    ensures { λ r. ⌜ Put (now (out .entry)) at (take (e - a) (drop a (now (src .entry)))) (now (out .exit)) r ⌝ }
-{
-    put_bytes(out, at, &src[a..e])
 }
 
 fn digit_of(n: u64) -> u8

@@ -11,10 +11,9 @@ use Rattle.text.specs.Tests.{is-true, and-l, and-r}
 use Rattle.x64.specs.declared.Op.{Op}
 use Rattle.x64.specs.declared.Op.the-variants.{PushNonVolatile, Alloc, SaveRsp, SaveFp, SetFpRegister, PushMachineFrame, Other, Undecodable}
 use Rattle.x64.specs.declared.Scan.{Scan}
-use Rattle.lines.specs.Lines.{Form, registerPlus}
 use Rattle.text.specs.Text.{ascii}
 use Rattle.names.specs.Names.{peName}
-use Rattle.x64.specs.X64.{chain, growthOf, valueOf, run, total, opCfa, cfaForm, isMachine, anyMachine, isSet, setCount, inReach, x64Layout}
+use Rattle.x64.specs.X64.{chain, growthOf, valueOf, run, total, cfaText, setText, cfaOr, isMachine, anyMachine, isSet, setCount, inReach, x64Layout}
 use Rattle.x64.specs.Index.{within, reaches, chain-reach, chainNumber}
 
 -- S is 8; nothing else was met
@@ -124,12 +123,12 @@ scanned-append s (x ∷ xs) ys = scanned-append (scanStep s x) xs ys
 -- ---- what it says of the chain
 
 -- 01, x64 body: the CFA, from the frame register that was set, else from $rsp
-unfoldable pub cfaOf : Scan → Form
-cfaOf s = cond (s .set) (registerPlus (peName (s .frame)) (subℕ (s .place) (s .offset))) (registerPlus (ascii "$rsp") (pos (s .total)))
+unfoldable pub cfaOf : Scan → List ℕ
+cfaOf s = cond (s .set) (cfaText (peName (s .frame)) (subℕ (s .place) (s .offset))) (cfaText (ascii "$rsp") (pos (s .total)))
 
 -- the CFA where the operations os are yet to run
-cfaFrom : Scan → List Op → Form
-cfaFrom s os = cond (s .set) (registerPlus (peName (s .frame)) (subℕ (s .place) (s .offset))) (cfaForm (run opCfa (s .total) os) (total (s .total) os))
+cfaFrom : Scan → List Op → List ℕ
+cfaFrom s os = cond (s .set) (cfaText (peName (s .frame)) (subℕ (s .place) (s .offset))) (cfaOr (run setText (s .total) os) (total (s .total) os))
 
 advance-lost : (s : Scan) (o : Op) (S : ℕ) → advance s o S .lost ≡ s .lost
 unfolding advance grown framed machined isMachine
@@ -166,12 +165,12 @@ advance-machine s Other S b = refl
 advance-machine s Undecodable S b = refl
 
 advance-cfa : (s : Scan) (o : Op) (os : List Op) → cfaFrom (advance s o (s .total + growthOf o)) os ≡ cfaFrom s (o ∷ os)
-unfolding cfaFrom advance grown framed machined run total opCfa cfaForm growthOf
+unfolding cfaFrom advance grown framed machined run total setText cfaOr growthOf
 advance-cfa s (PushNonVolatile r) os = refl
 advance-cfa s (Alloc v) os = refl
 advance-cfa s (SaveRsp r v) os = let e : s .total + 0 ≡ s .total = omega arith in rw e
 advance-cfa s (SaveFp r v f o) os = let e : s .total + 0 ≡ s .total = omega arith in rw e
-advance-cfa s (SetFpRegister f o) os = elim (s .set) as (λ t. registerPlus (peName (cond t (s .frame) f)) (subℕ (cond t (s .place) (s .total)) (cond t (s .offset) o)) ≡ cond t (registerPlus (peName (s .frame)) (subℕ (s .place) (s .offset))) (registerPlus (peName f) (subℕ (s .total) o))) [ true ↦ refl | false ↦ refl ]
+advance-cfa s (SetFpRegister f o) os = elim (s .set) as (λ t. cfaText (peName (cond t (s .frame) f)) (subℕ (cond t (s .place) (s .total)) (cond t (s .offset) o)) ≡ cond t (cfaText (peName (s .frame)) (subℕ (s .place) (s .offset))) (cfaText (peName f) (subℕ (s .total) o))) [ true ↦ refl | false ↦ refl ]
 advance-cfa s (PushMachineFrame e) os = refl
 advance-cfa s Other os = let e : s .total + 0 ≡ s .total = omega arith in rw e
 advance-cfa s Undecodable os = let e : s .total + 0 ≡ s .total = omega arith in rw e
@@ -200,8 +199,8 @@ module _ (os : List Op) (r : T (reaches 8 os)) where
   scan-machine = scan-ind (λ s os z. z .machine ≡ (s .machine || anyMachine os)) (λ s. sym (or-false (s .machine)))
       (λ s o os z e. e ∙ advance-machine s o (s .total + growthOf o) (anyMachine os)) scanStart os refl r
 
-  pub scan-cfa : cfaOf (scanned scanStart os) ≡ cfaForm (run opCfa 8 os) (total 8 os)
-  unfolding cfaOf cfaFrom run total cfaForm scanStart
+  pub scan-cfa : cfaOf (scanned scanStart os) ≡ cfaOr (run setText 8 os) (total 8 os)
+  unfolding cfaOf cfaFrom run total cfaOr scanStart
   scan-cfa = scan-ind (λ s os z. cfaOf z ≡ cfaFrom s os) (λ s. refl) (λ s o os z e. e ∙ advance-cfa s o os) scanStart os refl r
 
   pub scan-twice : scanned scanStart os .twice ≡ ltb 1 (setCount os)

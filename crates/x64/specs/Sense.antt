@@ -1,21 +1,23 @@
 -- The sense of an x64 entry (document 01, "Sense"): its line, with each operation's S by a sum over those run before it.
 -- Proved below: the text as the operations are run is this line's text, the line is well formed, and the law of the CFA.
-use mathlib.Core.Path.{_≡_, refl, sym, ap}
+-- Of the text's definitions it uses none.
+use mathlib.Core.Path.{_≡_, refl, sym, ap, _∙_}
 use Prim.Native.Nat.{ℕ, zero, suc, _+_, _-_, _*_}
 use native.Mathlib.Nat.{add-assoc}
 use native.Mathlib.Numerals.{add-one}
 use native.Mathlib.Omega.{arith}
 use mathlib.Core.Bool.{Bool, true, false, cond}
-use mathlib.Core.List.{List, [], _∷_, _++_, append-nil}
+use mathlib.Core.List.{List, [], _∷_, _++_, map, append-nil, append-assoc, map-append}
 use lib.ListN.{length, getD, take, length-append}
 use lib.Seq.{take-append-seam, getD-append-seam, append-snoc}
-use lib.IntN.{pos}
+use lib.IntN.{ℤ, pos, subℕ}
 use lib.Dec.{T}
 use Rattle.text.specs.Text.{ascii}
 use Rattle.text.specs.Tests.{is-true, all, all-append, and-l, both}
+use Rattle.text.specs.Digits.{hex, signed}
 use Rattle.names.specs.Names.{peName}
-use Rattle.lines.specs.Lines.{Form, registerPlus, Rule, rule, Line, init, cfa, lineText, render, nameOk, registerOk, formOk, ruleOk, lineOk}
-use Rattle.lines.specs.Lines.Laws.{render-none}
+use Rattle.lines.specs.Lines.{Bytes, Form, registerPlus, atRegisterPlus, atCfaMinus, Rule, rule, Line, init, cfa, formText, ruleText, rulesText, initText, lineText, render, nameOk, registerOk, formOk, ruleOk, lineOk}
+use Rattle.lines.specs.Lines.Laws.{rules-append, render-none, register-amount, cfa-amount}
 use Rattle.lines.specs.Rules.Laws.{pe-ok}
 use Rattle.entry.specs.declared.Judged.{Judged}
 use Rattle.entry.specs.declared.Judged.the-variants.{Refuse, Skip, Write}
@@ -23,7 +25,42 @@ use Rattle.entry.specs.declared.Last.{Last}
 use Rattle.entry.specs.Entry.{comesTo, ifWritten, word}
 use Rattle.x64.specs.declared.Op.{Op}
 use Rattle.x64.specs.declared.Op.the-variants.{PushNonVolatile, Alloc, SaveRsp, SaveFp, SetFpRegister, PushMachineFrame, Other, Undecodable}
-use Rattle.x64.specs.X64.{chain, growthOf, run, total, machineRules, opRules, opCfa, cfaForm, isMachine, anyMachine, raRules, ranRules, x64Text, isSet, setCount, x64Judged, x64Entry}
+use Rattle.x64.specs.X64.{chain, growthOf, run, total, savedText, framedText, machineText, opText, cfaText, setText, isMachine, anyMachine, cfaOr, raText, rulesRun, x64Text, isSet, setCount, x64Judged, x64Entry}
+
+-- ---- what an operation recovers, where its S is known
+
+-- a push lies at S + 8, save 3 at S - value, save 4 at value - frame offset from the frame register; a machine frame has RSP and RIP
+unfoldable pub opRules : ℕ → Op → List Rule
+opRules S (PushNonVolatile r) = rule (peName r) (atCfaMinus (pos (S + 8))) ∷ []
+opRules S (Alloc v) = []
+opRules S (SaveRsp r v) = rule (peName r) (atCfaMinus (subℕ S v)) ∷ []
+opRules S (SaveFp r v f o) = rule (peName r) (atRegisterPlus (peName f) (subℕ v o)) ∷ []
+opRules S (SetFpRegister f o) = []
+opRules S (PushMachineFrame code) = rule (ascii "$rsp") (atCfaMinus (pos (S + 16))) ∷ rule (ascii ".ra") (atCfaMinus (pos (S + 40))) ∷ []
+opRules S Other = []
+opRules S Undecodable = []
+
+-- the CFA that an operation sets
+unfoldable pub opCfa : ℕ → Op → List Form
+opCfa S (PushNonVolatile r) = []
+opCfa S (Alloc v) = []
+opCfa S (SaveRsp r v) = []
+opCfa S (SaveFp r v f o) = []
+opCfa S (SetFpRegister f o) = registerPlus (peName f) (subℕ S o) ∷ []
+opCfa S (PushMachineFrame code) = []
+opCfa S Other = []
+opCfa S Undecodable = []
+
+-- from the frame register that was set (refusal 7: at most one), else from $rsp
+unfoldable pub cfaForm : List Form → ℕ → Form
+cfaForm [] S = registerPlus (ascii "$rsp") (pos S)
+cfaForm (f ∷ fs) S = f
+
+-- with no machine frame the return address stands at CFA - 8
+unfoldable pub raRules : Bool → List Rule
+raRules machine = cond machine [] (rule (ascii ".ra") (atCfaMinus (pos 8)) ∷ [])
+
+-- ---- S by sums
 
 -- 8 a push, an allocation's value, 40 a machine frame and 8 its error code
 unfoldable pub addedBy : Op → ℕ
@@ -96,14 +133,87 @@ unfolding sum total
 sum-total S [] = omega arith
 sum-total S (o ∷ os) = rw (← sum-total (S + growthOf o) os, ← added-growth o) (omega arith)
 
-pub rules-ran : (os : List Op) → ranRules os ≡ x64Rules os
-unfolding ranRules x64Rules
-rules-ran os = rw (sums-run opCfa os, sums-run opRules os, sum-total 8 os)
+-- ---- the text as it is run is the rendering of the line
 
--- the text as it is run is the rendering of the line
+pub saved-rule : (n : Bytes) (z : ℤ) → ruleText (rule n (atCfaMinus z)) ≡ savedText n z
+unfolding ruleText formText savedText
+saved-rule n z = cfa-amount (ascii " " ++ n) (signed z) (ascii " - ^")
+
+pub framed-rule : (n r : Bytes) (z : ℤ) → ruleText (rule n (atRegisterPlus r z)) ≡ framedText n r z
+unfolding ruleText formText framedText
+framed-rule n r z = register-amount (ascii " " ++ n ++ ascii ": ") r (signed z) (ascii " + ^")
+
+pub cfa-rule : (r : Bytes) (z : ℤ) → ruleText (rule cfa (registerPlus r z)) ≡ cfaText r z
+unfolding ruleText formText cfaText
+cfa-rule r z = register-amount (ascii " .cfa: ") r (signed z) (ascii " +")
+
+op-text : (S : ℕ) (o : Op) → rulesText (opRules S o) ≡ opText S o
+unfolding opRules opText machineText rulesText
+op-text S (PushNonVolatile r) = append-nil _ ∙ saved-rule (peName r) (pos (S + 8))
+op-text S (Alloc v) = refl
+op-text S (SaveRsp r v) = append-nil _ ∙ saved-rule (peName r) (subℕ S v)
+op-text S (SaveFp r v f o) = append-nil _ ∙ framed-rule (peName r) (peName f) (subℕ v o)
+op-text S (SetFpRegister f o) = refl
+op-text S (PushMachineFrame code) = rw (append-nil (ruleText (rule (ascii ".ra") (atCfaMinus (pos (S + 40))))), saved-rule (ascii "$rsp") (pos (S + 16)), saved-rule (ascii ".ra") (pos (S + 40)))
+op-text S Other = refl
+op-text S Undecodable = refl
+
+ops-text : (S : ℕ) (os : List Op) → rulesText (run opRules S os) ≡ run opText S os
+unfolding run rulesText
+ops-text S [] = refl
+ops-text S (o ∷ os) = rw (rules-append (opRules S o) (run opRules (S + growthOf o) os), op-text S o, ops-text (S + growthOf o) os)
+
+-- the text of a CFA rule
+abbrev cfaRule : Form → Bytes
+cfaRule f = ruleText (rule cfa f)
+
+set-text : (S : ℕ) (o : Op) → map cfaRule (opCfa S o) ≡ setText S o
+unfolding opCfa setText
+set-text S (PushNonVolatile r) = refl
+set-text S (Alloc v) = refl
+set-text S (SaveRsp r v) = refl
+set-text S (SaveFp r v f o) = refl
+set-text S (SetFpRegister f o) = rw (cfa-rule (peName f) (subℕ S o))
+set-text S (PushMachineFrame code) = refl
+set-text S Other = refl
+set-text S Undecodable = refl
+
+sets-text : (S : ℕ) (os : List Op) → map cfaRule (run opCfa S os) ≡ run setText S os
+unfolding run
+sets-text S [] = refl
+sets-text S (o ∷ os) = rw (map-append cfaRule (opCfa S o) (run opCfa (S + growthOf o) os), set-text S o, sets-text (S + growthOf o) os)
+
+cfa-text : (fs : List Form) (S : ℕ) → cfaRule (cfaForm fs S) ≡ cfaOr (map cfaRule fs) S
+unfolding cfaForm cfaOr
+cfa-text [] S = cfa-rule (ascii "$rsp") (pos S)
+cfa-text (f ∷ fs) S = refl
+
+ra-text : (machine : Bool) → rulesText (raRules machine) ≡ raText machine
+unfolding raRules raText rulesText
+ra-text true = refl
+ra-text false = append-nil _ ∙ saved-rule (ascii ".ra") (pos 8)
+
+parts : (x y w : Bytes) → x ++ (y ++ w) ≡ x ++ y ++ w
+parts x y w = simp append-assoc
+
+rules-text : (os : List Op) → rulesText (x64Rules os) ≡ rulesRun os
+unfolding x64Rules rulesRun rulesText
+rules-text os = rw (
+  rules-append (sums opRules os) (raRules (anyMachine os)),
+  sums-run opRules os,
+  sums-run opCfa os,
+  sum-total 8 os,
+  ops-text 8 os,
+  ra-text (anyMachine os),
+  cfa-text (run opCfa 8 os) (total 8 os),
+  sets-text 8 os,
+) (parts (cfaOr (run setText 8 os) (total 8 os)) (run opText 8 os) (raText (anyMachine os)))
+
 pub x64-text : (ws : List ℕ) → x64Text ws ≡ render false (x64Line ws ∷ [])
-unfolding x64Text x64Line render
-x64-text ws = rw (rules-ran (chain ws)) (sym (append-nil (lineText false (init (word ws 0) (word ws 1 - word ws 0) (x64Rules (chain ws))))))
+unfolding x64Text x64Line render lineText initText
+x64-text ws =
+    let i : Bytes = ascii "STACK CFI INIT " ++ hex (word ws 0) ++ ascii " " ++ hex (word ws 1 - word ws 0) in
+    sym (append-nil (i ++ rulesText (x64Rules (chain ws)) ++ ascii "\n") ∙ ap (λ (t : Bytes). i ++ t ++ ascii "\n") (rules-text (chain ws)))
 
 -- ---- the line is well formed
 
@@ -114,7 +224,7 @@ pe-register : (r : ℕ) → registerOk (peName r) ≡ true
 pe-register r = is-true (registerOk (peName r)) (pe-ok r)
 
 op-ok : (S : ℕ) (o : Op) → T (all ruleOk (opRules S o))
-unfolding opRules machineRules
+unfolding opRules
 op-ok S (PushNonVolatile r) = rw (pe-name r) tt
 op-ok S (Alloc v) = tt
 op-ok S (SaveRsp r v) = rw (pe-name r) tt

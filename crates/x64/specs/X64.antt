@@ -9,7 +9,7 @@ use lib.Dec.{ltb, leb, eqb}
 use Rattle.text.specs.Text.{ascii}
 use Rattle.text.specs.Tests.{all}
 use Rattle.names.specs.Names.{peName, pe-x64}
-use Rattle.lines.specs.Lines.{Form, Rule, rule, registerPlus, atRegisterPlus, atCfaMinus, cfa, init, lineText, Lines·open}
+use Rattle.text.specs.Digits.{hex, signed, Digits·open}
 use Rattle.entry.specs.declared.Last.{Last}
 use Rattle.entry.specs.Entry.{Entry, comesTo, word}
 use Rattle.x64.specs.declared.Op.{Op}
@@ -73,31 +73,43 @@ valueOf (PushMachineFrame code) = 0
 valueOf Other = 0
 valueOf Undecodable = 0
 
+-- " R: .cfa N - ^"
+unfoldable pub savedText : List ℕ → ℤ → List ℕ
+savedText name n = ascii " " ++ name ++ ascii ": .cfa " ++ signed n ++ ascii " - ^"
+
+-- " R: F N + ^", F the frame register's name
+unfoldable pub framedText : List ℕ → List ℕ → ℤ → List ℕ
+framedText name frame n = ascii " " ++ name ++ ascii ": " ++ frame ++ ascii " " ++ signed n ++ ascii " + ^"
+
 -- where the interrupt pushed RSP and RIP
-unfoldable pub machineRules : ℕ → List Rule
-machineRules S = rule (ascii "$rsp") (atCfaMinus (pos (S + 16))) ∷ rule (ascii ".ra") (atCfaMinus (pos (S + 40))) ∷ []
+unfoldable pub machineText : ℕ → List ℕ
+machineText S = savedText (ascii "$rsp") (pos (S + 16)) ++ savedText (ascii ".ra") (pos (S + 40))
 
 -- push: S + 8; save 3: S - value; save 4: value - frame offset from the frame register
-unfoldable pub opRules : ℕ → Op → List Rule
-opRules S (PushNonVolatile r) = rule (peName r) (atCfaMinus (pos (S + 8))) ∷ []
-opRules S (Alloc v) = []
-opRules S (SaveRsp r v) = rule (peName r) (atCfaMinus (subℕ S v)) ∷ []
-opRules S (SaveFp r v f o) = rule (peName r) (atRegisterPlus (peName f) (subℕ v o)) ∷ []
-opRules S (SetFpRegister f o) = []
-opRules S (PushMachineFrame code) = machineRules S
-opRules S Other = []
-opRules S Undecodable = []
+unfoldable pub opText : ℕ → Op → List ℕ
+opText S (PushNonVolatile r) = savedText (peName r) (pos (S + 8))
+opText S (Alloc v) = []
+opText S (SaveRsp r v) = savedText (peName r) (subℕ S v)
+opText S (SaveFp r v f o) = framedText (peName r) (peName f) (subℕ v o)
+opText S (SetFpRegister f o) = []
+opText S (PushMachineFrame code) = machineText S
+opText S Other = []
+opText S Undecodable = []
 
--- the CFA that an operation sets
-unfoldable pub opCfa : ℕ → Op → List Form
-opCfa S (PushNonVolatile r) = []
-opCfa S (Alloc v) = []
-opCfa S (SaveRsp r v) = []
-opCfa S (SaveFp r v f o) = []
-opCfa S (SetFpRegister f o) = registerPlus (peName f) (subℕ S o) ∷ []
-opCfa S (PushMachineFrame code) = []
-opCfa S Other = []
-opCfa S Undecodable = []
+-- " .cfa: R N +"
+unfoldable pub cfaText : List ℕ → ℤ → List ℕ
+cfaText r n = ascii " .cfa: " ++ r ++ ascii " " ++ signed n ++ ascii " +"
+
+-- set: the CFA is S - frame offset above the frame register
+unfoldable pub setText : ℕ → Op → List (List ℕ)
+setText S (PushNonVolatile r) = []
+setText S (Alloc v) = []
+setText S (SaveRsp r v) = []
+setText S (SaveFp r v f o) = []
+setText S (SetFpRegister f o) = cfaText (peName f) (subℕ S o) ∷ []
+setText S (PushMachineFrame code) = []
+setText S Other = []
+setText S Undecodable = []
 
 -- is it a machine frame
 unfoldable pub isMachine : Op → Bool
@@ -129,21 +141,21 @@ total S [] = S
 total S (o ∷ os) = total (S + growthOf o) os
 
 -- from the frame register that was set (refusal 7: at most one), else from $rsp
-unfoldable pub cfaForm : List Form → ℕ → Form
-cfaForm [] S = registerPlus (ascii "$rsp") (pos S)
-cfaForm (f ∷ fs) S = f
+unfoldable pub cfaOr : List (List ℕ) → ℕ → List ℕ
+cfaOr [] S = cfaText (ascii "$rsp") (pos S)
+cfaOr (t ∷ ts) S = t
 
 -- with no machine frame, " .ra: .cfa 8 - ^" ends the line
-unfoldable pub raRules : Bool → List Rule
-raRules machine = cond machine [] (rule (ascii ".ra") (atCfaMinus (pos 8)) ∷ [])
+unfoldable pub raText : Bool → List ℕ
+raText machine = cond machine [] (savedText (ascii ".ra") (pos 8))
 
 -- the CFA rule, then the others as run
-unfoldable pub ranRules : List Op → List Rule
-ranRules os = rule cfa (cfaForm (run opCfa 8 os) (total 8 os)) ∷ (run opRules 8 os ++ raRules (anyMachine os))
+unfoldable pub rulesRun : List Op → List ℕ
+rulesRun os = cfaOr (run setText 8 os) (total 8 os) ++ run opText 8 os ++ raText (anyMachine os)
 
 -- INIT, begin, end less begin, and the rules
 unfoldable pub x64Text : List ℕ → List ℕ
-x64Text ws = lineText false (init (word ws 0) (word ws 1 - word ws 0) (ranRules (chain ws)))
+x64Text ws = ascii "STACK CFI INIT " ++ hex (word ws 0) ++ ascii " " ++ hex (word ws 1 - word ws 0) ++ rulesRun (chain ws) ++ ascii "\n"
 
 -- ---- refusal 4: ranges, and exactly the words that the counts demand
 
@@ -242,5 +254,5 @@ x64Entry limit last ws = comesTo (x64Judged limit ws) (x64Text ws) last last
 
 -- what to unfold where x64 entries are to compute
 unfoldable pub X64·open : Type 0
-unfolding Lines·open peName pe-x64 opOf stored infos inOrder chain growthOf valueOf machineRules opRules opCfa isMachine anyMachine run total cfaForm raRules ranRules x64Text opFits opsFit infoFits infosFit x64Layout allZero undecodableOps undecodableInfos x64Skipped inside printed inReach isSet setCount x64Reach x64Judged x64Entry
+unfolding Digits·open peName pe-x64 opOf stored infos inOrder chain growthOf valueOf savedText framedText machineText opText cfaText setText isMachine anyMachine run total cfaOr raText rulesRun x64Text opFits opsFit infoFits infosFit x64Layout allZero undecodableOps undecodableInfos x64Skipped inside printed inReach isSet setCount x64Reach x64Judged x64Entry
 X64·open = Unit {0}

@@ -27,8 +27,7 @@ ghost use lib.Dec.{T};
 ghost use Rattle.text.specs.Text.{Put, ascii};
 ghost use Rattle.names.specs.Names.{peName};
 ghost use Rattle.entry.specs.Entry.{Processed, comesTo};
-ghost use Rattle.lines.specs.Lines.{rule, cfa, registerPlus, atRegisterPlus, atCfaMinus, ruleText, rulesText};
-ghost use Rattle.x64.specs.X64.{chain, opOf, growthOf, valueOf, run, machineRules, opRules, raRules, x64Text, opFits, opsFit, infoFits, x64Layout, allZero, undecodableOps, undecodableInfos, x64Skipped, x64Entry};
+ghost use Rattle.x64.specs.X64.{chain, opOf, growthOf, valueOf, run, savedText, framedText, machineText, opText, cfaText, raText, x64Text, opFits, opsFit, infoFits, x64Layout, allZero, undecodableOps, undecodableInfos, x64Skipped, x64Entry};
 ghost use Rattle.x64.specs.Index.{opAt, opsRun, growths, reaches, admitted, chainJudged};
 ghost use Rattle.x64.specs.Scan.{scanStart, lose, framed, advance, scanStep, scanned, cfaOf, scanNumber};
 
@@ -119,7 +118,7 @@ fn value_of(op: Op) -> u64
 // " R: .cfa N - ^", N = a - b
 fn put_saved(out: &mut [u8], at: usize, register: u32, a: u64, b: u64) -> usize
     requires { ⌜ (a < 2 ^ 63) × (b < 2 ^ 63) ⌝ }
-    ensures { λ r. ⌜ Put (now (out .entry)) at (ruleText (rule (peName register) (atCfaMinus (subℕ a b)))) (now (out .exit)) r ⌝ }
+    ensures { λ r. ⌜ Put (now (out .entry)) at (savedText (peName register) (subℕ a b)) (now (out .exit)) r ⌝ }
 {
     let x = difference(a, b);
     let reg = Reg::Pe(register);
@@ -130,7 +129,7 @@ fn put_saved(out: &mut [u8], at: usize, register: u32, a: u64, b: u64) -> usize
 
 // " R: F N + ^", N = a - b
 fn put_framed(out: &mut [u8], at: usize, register: u32, frame: u32, a: u32, b: u32) -> usize
-    ensures { λ r. ⌜ Put (now (out .entry)) at (ruleText (rule (peName register) (atRegisterPlus (peName frame) (subℕ a b)))) (now (out .exit)) r ⌝ }
+    ensures { λ r. ⌜ Put (now (out .entry)) at (framedText (peName register) (peName frame) (subℕ a b)) (now (out .exit)) r ⌝ }
 {
     let x = difference(a as u64, b as u64);
     let reg = Reg::Pe(register);
@@ -143,7 +142,7 @@ fn put_framed(out: &mut [u8], at: usize, register: u32, frame: u32, a: u32, b: u
 // " .ra: .cfa N - ^"
 fn put_return(out: &mut [u8], at: usize, a: u64) -> usize
     requires { ⌜ a < 2 ^ 63 ⌝ }
-    ensures { λ r. ⌜ Put (now (out .entry)) at (ruleText (rule (ascii ".ra") (atCfaMinus (pos a)))) (now (out .exit)) r ⌝ }
+    ensures { λ r. ⌜ Put (now (out .entry)) at (savedText (ascii ".ra") (pos a)) (now (out .exit)) r ⌝ }
 {
     let x = difference(a, 0);
     let name = Name::Ra;
@@ -154,7 +153,7 @@ fn put_return(out: &mut [u8], at: usize, a: u64) -> usize
 // " .cfa: R N +", N = a - b
 fn put_cfa(out: &mut [u8], at: usize, register: u32, a: u64, b: u64) -> usize
     requires { ⌜ (a < 2 ^ 63) × (b < 2 ^ 63) ⌝ }
-    ensures { λ r. ⌜ Put (now (out .entry)) at (ruleText (rule cfa (registerPlus (peName register) (subℕ a b)))) (now (out .exit)) r ⌝ }
+    ensures { λ r. ⌜ Put (now (out .entry)) at (cfaText (peName register) (subℕ a b)) (now (out .exit)) r ⌝ }
 {
     let x = difference(a, b);
     let name = Name::Cfa;
@@ -166,7 +165,7 @@ fn put_cfa(out: &mut [u8], at: usize, register: u32, a: u64, b: u64) -> usize
 // RSP and RIP as the interrupt pushed them.
 fn put_machine(out: &mut [u8], at: usize, total: u64) -> usize
     requires { ⌜ total < 2 ^ 31 ⌝ }
-    ensures { λ r. ⌜ Put (now (out .entry)) at (rulesText (machineRules total)) (now (out .exit)) r ⌝ }
+    ensures { λ r. ⌜ Put (now (out .entry)) at (machineText total) (now (out .exit)) r ⌝ }
 {
     let p = put_saved(out, at, RSP, total + 16, 0);
     put_return(out, p, total + 40)
@@ -175,7 +174,7 @@ fn put_machine(out: &mut [u8], at: usize, total: u64) -> usize
 // What an operation writes where the total is `total`.
 fn put_op(out: &mut [u8], at: usize, total: u64, op: Op) -> usize
     requires { ⌜ total < 2 ^ 31 ⌝ }
-    ensures { λ r. ⌜ Put (now (out .entry)) at (rulesText (opRules total op)) (now (out .exit)) r ⌝ }
+    ensures { λ r. ⌜ Put (now (out .entry)) at (opText total op) (now (out .exit)) r ⌝ }
 {
     match op {
         Op::PushNonVolatile(register) => put_saved(out, at, register, total + 8, 0),
@@ -209,7 +208,7 @@ fn put_ops(
     total: u64,
 ) -> Placed
     requires { ⌜ (a < 2 ^ 20) × (n ≤ 255) × (total < 2 ^ 31) × T (reaches total (opsRun (now body) frame offset a n)) ⌝ }
-    ensures { λ r. ⌜ Put (now (out .entry)) at (rulesText (run opRules total (opsRun (now (body .entry)) frame offset a n))) (now (out .exit)) (r .at) × (r .total ≡ total + growths (opsRun (now (body .entry)) frame offset a n)) ⌝ }
+    ensures { λ r. ⌜ Put (now (out .entry)) at (run opText total (opsRun (now (body .entry)) frame offset a n)) (now (out .exit)) (r .at) × (r .total ≡ total + growths (opsRun (now (body .entry)) frame offset a n)) ⌝ }
 {
     let mut p = at;
     let mut s = total;
@@ -226,7 +225,7 @@ fn put_ops(
 // The rules of the whole chain: infos first to last.
 fn put_chain(out: &mut [u8], at: usize, body: &[u32]) -> usize
     requires { ⌜ T (x64Layout (now body)) × T (reaches 8 (chain (now body))) ⌝ }
-    ensures { λ r. ⌜ Put (now (out .entry)) at (rulesText (run opRules 8 (chain (now (body .entry))))) (now (out .exit)) r ⌝ }
+    ensures { λ r. ⌜ Put (now (out .entry)) at (run opText 8 (chain (now (body .entry)))) (now (out .exit)) r ⌝ }
 {
     let mut p = at;
     let mut s: u64 = 8;
@@ -388,7 +387,7 @@ fn less(a: u32, b: u32) -> u64
 // The CFA rule: from the frame register where one is set, else from $rsp.
 fn put_scan(out: &mut [u8], at: usize, s: Scan) -> usize
     requires { ⌜ (s .total < 2 ^ 31) × (s .place < 2 ^ 31) ⌝ }
-    ensures { λ r. ⌜ Put (now (out .entry)) at (ruleText (rule cfa (cfaOf s))) (now (out .exit)) r ⌝ }
+    ensures { λ r. ⌜ Put (now (out .entry)) at (cfaOf s) (now (out .exit)) r ⌝ }
 {
     if s.set {
         return put_cfa(out, at, s.frame, s.place, s.offset as u64);
@@ -397,7 +396,7 @@ fn put_scan(out: &mut [u8], at: usize, s: Scan) -> usize
 }
 
 fn put_ra(out: &mut [u8], at: usize, machine: bool) -> usize
-    ensures { λ r. ⌜ Put (now (out .entry)) at (rulesText (raRules machine)) (now (out .exit)) r ⌝ }
+    ensures { λ r. ⌜ Put (now (out .entry)) at (raText machine) (now (out .exit)) r ⌝ }
 {
     if machine {
         return at;

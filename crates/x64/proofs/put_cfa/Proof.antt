@@ -1,13 +1,13 @@
 -- `put_cfa`: one rule; `difference` is the signed number.
 use mathlib.Core.Path.{ap, _∙_}
-use lib.IntN.{ℤ}
 use mir.Syntax.{w64}
 use mir.Val.{SFits}
 use mir.Facts.{toZ-ofZ}
 use Rattle.text.specs.Text.Laws.{put-as}
 use Rattle.names.specs.Names.{peName}
-use Rattle.lines.specs.Lines.{rule, cfa, registerPlus, ruleText}
 use Rattle.lines.specs.Rules.{ruleOf, ruleName, regName, formOf}
+use Rattle.x64.specs.X64.{cfaText}
+use Rattle.x64.specs.Sense.{cfa-rule}
 use borrow.Author.Needs.{needs}
 use Rattle.x64.proofs.put_cfa.Statement.{statement}
 use Rattle.x64.proofs.put_cfa.Tie as tie
@@ -28,7 +28,7 @@ returns c =
     let args = c .before .before .before .before .before .before .args in
     let f : SFits w64 (difference .result) = search needs in
     put-as (c .before .before .put-rule .ensures)
-    (ap (λ (z : ℤ). ruleText (rule cfa (registerPlus (peName (args .register)) z))) (toZ-ofZ f ∙ difference .ensures))
+    (cfa-rule (peName (args .register)) _ ∙ ap (cfaText (peName (args .register))) (toZ-ofZ f ∙ difference .ensures))
 
 pub put-cfa-spec : {M : Type 1} → statement M
 put-cfa-spec = tie.close (tie.spec difference-requires put-rule-requires same-length returns)

@@ -1,7 +1,6 @@
 -- `put_chain`: what the infos left put, behind what is put, is the whole (`ChainLeft`).
 use Rattle.text.specs.Text.Laws.{put-length}
-use Rattle.lines.specs.Lines.{rulesText}
-use Rattle.x64.specs.X64.{chain, run, opRules}
+use Rattle.x64.specs.X64.{chain, run, opText}
 use Rattle.x64.proofs.Loops.{ChainLeft, info-few, info-reach, chain-turn, chain-done, chain-all}
 use borrow.Author.Needs.{needs}
 use native.Mathlib.Omega.{arith}
@@ -9,7 +8,7 @@ use Rattle.x64.proofs.put_chain.Statement.{statement}
 use Rattle.x64.proofs.put_chain.Tie as tie
 
 abbrev Inv-loop : tie.InvT-loop
-Inv-loop out₀ at body p₀ s₀ a₀ m₀ out p s a m = ChainLeft body out₀ at (rulesText (run opRules 8 (chain body))) out p s a m
+Inv-loop out₀ at body p₀ s₀ a₀ m₀ out p s a m = ChainLeft body out₀ at (run opText 8 (chain body)) out p s a m
 
 abbrev μ-loop : tie.MeasureT-loop
 μ-loop out₀ at body p₀ s₀ a₀ m₀ out p s a m = m

@@ -1,11 +1,9 @@
 -- `put_entry`: the beginning, the CFA, the chain, the return address and the newline, put one after the other.
 use Prim.Native.Nat.{_-_}
 use mathlib.Core.Path.{ap, _∙_}
-use mathlib.Core.Bool.{Bool}
 use Rattle.text.specs.Text.Laws.{put-as}
-use Rattle.lines.specs.Lines.{Form, rule, cfa, ruleText, rulesText}
 use Rattle.entry.specs.Entry.{word}
-use Rattle.x64.specs.X64.{chain, run, total, opCfa, opRules, cfaForm, anyMachine, raRules, ranRules, x64Text}
+use Rattle.x64.specs.X64.{chain, run, total, setText, opText, cfaOr, anyMachine, raText, rulesRun, x64Text}
 use Rattle.x64.specs.Scan.{scanStart, cfaOf, scan-cfa, scan-machine, scanned-small}
 use Rattle.x64.proofs.Rules.{put-line}
 use native.Mathlib.Omega.{arith}
@@ -45,17 +43,17 @@ same-length : tie.Need-same-length
 same-length c = search needs
 
 returns : tie.Need-returns
-unfolding x64Text ranRules
+unfolding x64Text rulesRun
 returns c =
     let ws = c .before .before .before .before .before .before .before .before .before .before .before .before .before .before .before .before .before .before .before .before .before .before .before .before .before .args .body .now in
     let os = chain ws in
     let r = c .before .before .before .before .before .before .before .before .before .before .before .before .before .before .before .before .before .before .before .before .before .before .before .before .before .pre .1 in
     let s = c .before .before .before .before .before .before .before .before .before .before .before .before .before .before .before .before .before .before .before .before .before .before .before .before .before .pre .2 in
-    put-line (word ws 0) (word ws 1 - word ws 0) (rule cfa (cfaForm (run opCfa 8 os) (total 8 os))) (run opRules 8 os) (raRules (anyMachine os))
+    put-line (word ws 0) (word ws 1 - word ws 0) (cfaOr (run setText 8 os) (total 8 os)) (run opText 8 os) (raText (anyMachine os))
     (put-as (c .before .before .before .before .before .before .before .before .before .before .before .before .before .before .before .before .before .before .put-init .ensures) (rw (c .before .before .before .before .before .before .before .before .before .before .before .before .before .before .before .before .before .before .before .before .less .ensures, c .before .before .before .before .before .before .before .before .before .before .before .before .before .before .before .before .before .before .before .before .before .word2 .ensures, c .before .before .before .before .before .before .before .before .before .before .before .before .before .before .before .before .before .before .before .before .before .before .word .ensures)))
-    (put-as (c .before .before .before .before .before .before .before .before .before .before .before .before .before .before .put-scan .ensures) (ap (λ (f : Form). ruleText (rule cfa f)) (ap cfaOf s ∙ scan-cfa os r)))
+    (put-as (c .before .before .before .before .before .before .before .before .before .before .before .before .before .before .put-scan .ensures) (ap cfaOf s ∙ scan-cfa os r))
     (c .before .before .before .before .before .before .before .before .before .before .put-chain .ensures)
-    (put-as (c .before .before .before .before .before .before .put-ra .ensures) (ap (λ (m : Bool). rulesText (raRules m)) (ap (λ x. x .machine) s ∙ scan-machine os r)))
+    (put-as (c .before .before .before .before .before .before .put-ra .ensures) (ap raText (ap (λ x. x .machine) s ∙ scan-machine os r)))
     (c .before .before .put-byte .ensures)
 
 pub put-entry-spec : {M : Type 1} → statement M

@@ -1,13 +1,13 @@
 -- `put_framed`: one rule; `difference` is the signed number.
 use mathlib.Core.Path.{ap, _∙_}
-use lib.IntN.{ℤ}
 use mir.Syntax.{w64}
 use mir.Val.{SFits}
 use mir.Facts.{toZ-ofZ}
 use Rattle.text.specs.Text.Laws.{put-as}
 use Rattle.names.specs.Names.{peName}
-use Rattle.lines.specs.Lines.{rule, atRegisterPlus, ruleText}
 use Rattle.lines.specs.Rules.{ruleOf, ruleName, regName, formOf}
+use Rattle.x64.specs.X64.{framedText}
+use Rattle.x64.specs.Sense.{framed-rule}
 use borrow.Author.Needs.{needs}
 use Rattle.x64.proofs.put_framed.Statement.{statement}
 use Rattle.x64.proofs.put_framed.Tie as tie
@@ -28,8 +28,8 @@ returns c =
     let args = c .before .before .before .before .before .before .args in
     let f : SFits w64 (difference .result) = search needs in
     put-as (c .before .before .put-rule .ensures)
-    (ap (λ (z : ℤ). ruleText (rule (peName (args .register)) (atRegisterPlus (peName (args .frame)) z)))
-    (toZ-ofZ f ∙ difference .ensures))
+    (framed-rule (peName (args .register)) (peName (args .frame)) _
+    ∙ ap (framedText (peName (args .register)) (peName (args .frame))) (toZ-ofZ f ∙ difference .ensures))
 
 pub put-framed-spec : {M : Type 1} → statement M
 put-framed-spec = tie.close (tie.spec difference-requires put-rule-requires same-length returns)

@@ -1,11 +1,10 @@
--- `put_machine`: two rules, put one after the other.
+-- `put_machine`: two texts, put one after the other.
 use Prim.Native.Nat.{_+_}
-use lib.IntN.{pos}
 use Rattle.text.specs.Text.{ascii}
+use Rattle.text.specs.Text.Laws.{_⨾_}
 use Rattle.names.specs.Names.{peName, pe-x64}
-use Rattle.lines.specs.Lines.{rule, atCfaMinus}
-use Rattle.x64.specs.X64.{machineRules}
-use Rattle.x64.proofs.Rules.{put-two, put-place}
+use Rattle.x64.specs.X64.{machineText}
+use Rattle.x64.proofs.Rules.{put-place}
 use borrow.Author.Needs.{needs}
 use Rattle.x64.proofs.put_machine.Statement.{statement}
 use Rattle.x64.proofs.put_machine.Tie as tie
@@ -26,13 +25,12 @@ same-length : tie.Need-same-length
 same-length c = search needs
 
 returns : tie.Need-returns
-unfolding machineRules peName pe-x64
+unfolding machineText peName pe-x64
 returns c =
     let put-saved = c .before .before .before .before .before .before .put-saved in
     let args = c .before .before .before .before .before .before .before .before .before .args in
     let s = args .total in
-    put-two (rule (ascii "$rsp") (atCfaMinus (pos (s + 16)))) (rule (ascii ".ra") (atCfaMinus (pos (s + 40))))
-    (put-place (ascii "$rsp") (s + 16) (put-saved .ensures)) (c .before .before .put-return .ensures)
+    put-place (ascii "$rsp") (s + 16) (put-saved .ensures) ⨾ c .before .before .put-return .ensures
 
 pub put-machine-spec : {M : Type 1} → statement M
 put-machine-spec =

@@ -2,9 +2,7 @@
 use Prim.Native.Nat.{_+_}
 use Rattle.text.specs.Text.Laws.{put-none}
 use Rattle.names.specs.Names.{peName}
-use Rattle.lines.specs.Lines.{rulesText}
-use Rattle.x64.specs.X64.{opRules}
-use Rattle.lines.specs.Lines.Laws.{put-one}
+use Rattle.x64.specs.X64.{opText}
 use Rattle.x64.proofs.Rules.{put-place}
 use native.Mathlib.Omega.{arith}
 use borrow.Author.Needs.{needs}
@@ -57,47 +55,47 @@ same-length : tie.Need-same-length
 same-length c = search needs
 
 returns : tie.Need-returns
-unfolding opRules
+unfolding opText
 returns c =
     let op = c .before .before .before .before .before .op in
     let args = c .before .before .before .before .before .before .before .before .args in
-    rw (op .given .1) (put-one _ (put-place (peName (op .given .0 .0)) (args .total + 8) (c .before .before .put-saved .ensures)))
+    rw (op .given .1) (put-place (peName (op .given .0 .0)) (args .total + 8) (c .before .before .put-saved .ensures))
 
 same-length-2 : tie.Need-same-length-2
 same-length-2 c = search needs
 
 returns-2 : tie.Need-returns-2
-unfolding opRules
-returns-2 c = rw (c .before .before .before .before .before .op2 .given .1) (put-one _ (c .before .before .put-saved2 .ensures))
+unfolding opText
+returns-2 c = rw (c .before .before .before .before .before .op2 .given .1) (c .before .before .put-saved2 .ensures)
 
 same-length-3 : tie.Need-same-length-3
 same-length-3 c = search needs
 
 returns-3 : tie.Need-returns-3
-unfolding opRules
-returns-3 c = rw (c .before .before .before .before .before .op3 .given .1) (put-one _ (c .before .before .put-framed .ensures))
+unfolding opText
+returns-3 c = rw (c .before .before .before .before .before .op3 .given .1) (c .before .before .put-framed .ensures)
 
 same-length-4 : tie.Need-same-length-4
 same-length-4 c = search needs
 
 returns-4 : tie.Need-returns-4
-unfolding opRules
+unfolding opText
 returns-4 c = rw (c .before .before .before .before .enum-told .given .1) (c .before .before .put-machine .ensures)
 
 returns-5 : tie.Need-returns-5
-unfolding opRules rulesText
+unfolding opText
 returns-5 c = rw (c .enum-told2 .given .1) (put-none (omega arith) (omega arith))
 
 returns-6 : tie.Need-returns-6
-unfolding opRules rulesText
+unfolding opText
 returns-6 c = rw (c .enum-told3 .given .1) (put-none (omega arith) (omega arith))
 
 returns-7 : tie.Need-returns-7
-unfolding opRules rulesText
+unfolding opText
 returns-7 c = rw (c .enum-told4 .given .1) (put-none (omega arith) (omega arith))
 
 returns-8 : tie.Need-returns-8
-unfolding opRules rulesText
+unfolding opText
 returns-8 c = rw (c .enum-told5 .given .1) (put-none (omega arith) (omega arith))
 
 pub put-op-spec : {M : Type 1} → statement M

@@ -2,8 +2,7 @@
 use Prim.Native.Nat.{_+_}
 use mathlib.Core.Path.{refl, ap, _∙_}
 use Rattle.text.specs.Text.Laws.{left-all, put-length}
-use Rattle.lines.specs.Lines.{rulesText}
-use Rattle.x64.specs.X64.{growthOf, run, opRules}
+use Rattle.x64.specs.X64.{growthOf, run, opText}
 use Rattle.x64.specs.Index.{opsRun, growths}
 use Rattle.x64.proofs.Loops.{OpsLeft, ops-within, ops-turn, ops-done}
 use borrow.Author.Needs.{needs}
@@ -13,7 +12,7 @@ use Rattle.x64.proofs.put_ops.Tie as tie
 
 abbrev Inv-loop : tie.InvT-loop
 Inv-loop out₀ at body frame offset a n total p₀ s₀ k₀ out p s k =
-    OpsLeft body frame offset a out₀ at (rulesText (run opRules total (opsRun body frame offset a n)))
+    OpsLeft body frame offset a out₀ at (run opText total (opsRun body frame offset a n))
     (total + growths (opsRun body frame offset a n)) out p s k
 
 abbrev μ-loop : tie.MeasureT-loop

@@ -1,14 +1,14 @@
 -- `put_return`: one rule; `difference` from 0 is the number itself.
 use mathlib.Core.Path.{ap, _∙_}
-use lib.IntN.{ℤ}
 use mir.Syntax.{w64}
 use mir.Val.{SFits}
 use mir.Facts.{toZ-ofZ}
 use Rattle.text.specs.Text.{ascii}
 use Rattle.text.specs.Text.Laws.{put-as}
-use Rattle.lines.specs.Lines.{rule, atCfaMinus, ruleText}
 use Rattle.lines.specs.Rules.{ruleOf, ruleName, formOf}
 use Rattle.lines.specs.Lines.Laws.{sub-none}
+use Rattle.x64.specs.X64.{savedText}
+use Rattle.x64.specs.Sense.{saved-rule}
 use borrow.Author.Needs.{needs}
 use Rattle.x64.proofs.put_return.Statement.{statement}
 use Rattle.x64.proofs.put_return.Tie as tie
@@ -29,7 +29,7 @@ returns c =
     let args = c .before .before .before .before .before .before .args in
     let f : SFits w64 (difference .result) = search needs in
     put-as (c .before .before .put-rule .ensures)
-    (ap (λ (z : ℤ). ruleText (rule (ascii ".ra") (atCfaMinus z))) (toZ-ofZ f ∙ difference .ensures ∙ sub-none (args .a)))
+    (saved-rule (ascii ".ra") _ ∙ ap (savedText (ascii ".ra")) (toZ-ofZ f ∙ difference .ensures ∙ sub-none (args .a)))
 
 pub put-return-spec : {M : Type 1} → statement M
 put-return-spec = tie.close (tie.spec difference-requires put-rule-requires same-length returns)

@@ -1,13 +1,13 @@
 -- `put_saved`: one rule; `difference` is the signed number.
 use mathlib.Core.Path.{ap, _∙_}
-use lib.IntN.{ℤ}
 use mir.Syntax.{w64}
 use mir.Val.{SFits}
 use mir.Facts.{toZ-ofZ}
 use Rattle.text.specs.Text.Laws.{put-as}
 use Rattle.names.specs.Names.{peName}
-use Rattle.lines.specs.Lines.{rule, atCfaMinus, ruleText}
 use Rattle.lines.specs.Rules.{ruleOf, ruleName, regName, formOf}
+use Rattle.x64.specs.X64.{savedText}
+use Rattle.x64.specs.Sense.{saved-rule}
 use borrow.Author.Needs.{needs}
 use Rattle.x64.proofs.put_saved.Statement.{statement}
 use Rattle.x64.proofs.put_saved.Tie as tie
@@ -28,7 +28,7 @@ returns c =
     let args = c .before .before .before .before .before .before .args in
     let f : SFits w64 (difference .result) = search needs in
     put-as (c .before .before .put-rule .ensures)
-    (ap (λ (z : ℤ). ruleText (rule (peName (args .register)) (atCfaMinus z))) (toZ-ofZ f ∙ difference .ensures))
+    (saved-rule (peName (args .register)) _ ∙ ap (savedText (peName (args .register))) (toZ-ofZ f ∙ difference .ensures))
 
 pub put-saved-spec : {M : Type 1} → statement M
 put-saved-spec = tie.close (tie.spec difference-requires put-rule-requires same-length returns)

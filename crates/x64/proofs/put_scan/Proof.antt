@@ -1,10 +1,9 @@
 -- `put_scan`: the CFA by whether a frame register is set.
 use mathlib.Core.Path.{ap}
-use lib.IntN.{ℤ}
 use Rattle.text.specs.Text.{ascii}
 use Rattle.text.specs.Text.Laws.{put-as}
 use Rattle.names.specs.Names.{peName, pe-x64}
-use Rattle.lines.specs.Lines.{rule, cfa, registerPlus, ruleText}
+use Rattle.x64.specs.X64.{cfaText}
 use Rattle.x64.specs.Scan.{cfaOf}
 use Rattle.lines.specs.Lines.Laws.{sub-none}
 use borrow.Author.Needs.{needs}
@@ -36,7 +35,7 @@ returns-2 c =
     let args = c .before .before .before .before .before .before .args in
     rw (c .before .before .before .before .if1 .left)
     (put-as (c .before .before .put-cfa2 .ensures)
-    (ap (λ (z : ℤ). ruleText (rule cfa (registerPlus (ascii "$rsp") z))) (sub-none (args .s .total))))
+    (ap (cfaText (ascii "$rsp")) (sub-none (args .s .total))))
 
 pub put-scan-spec : {M : Type 1} → statement M
 put-scan-spec =

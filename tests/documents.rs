@@ -1,0 +1,221 @@
+//! Holds the documents to the sources: every name in the tables of ARCHITECTURE.md and PROOFS.md stands in the code, the definitions or the proofs,
+//! every law in the file beside it; every public function has a row, every must-fail edit and planted fault is named, and none that is not there;
+//! every link leads to a file.
+//!
+//! Run from the repository's root. The last line is 'N passed, M failed'.
+
+use std::collections::{BTreeMap, BTreeSet};
+use std::path::{Path, PathBuf};
+use std::{fs, process};
+
+#[derive(Default)]
+struct Tally {
+    passed: u32,
+    failed: u32,
+}
+
+impl Tally {
+    fn check(&mut self, ok: bool, what: &str) {
+        if ok {
+            self.passed += 1;
+        } else {
+            self.failed += 1;
+            println!("FAILED: {what}");
+        }
+    }
+}
+
+fn read(path: impl AsRef<Path>) -> String {
+    let path = path.as_ref();
+    fs::read_to_string(path).unwrap_or_else(|e| panic!("{}: {e}", path.display()))
+}
+
+/// The files under a folder with this ending, in order.
+fn files(folder: &Path, ending: &str) -> Vec<PathBuf> {
+    let Ok(entries) = fs::read_dir(folder) else { return Vec::new() };
+    let mut found = Vec::new();
+    for path in entries.map(|e| e.expect("an entry").path()) {
+        if path.is_dir() {
+            found.extend(files(&path, ending));
+        } else if path.to_string_lossy().ends_with(ending) {
+            found.push(path);
+        }
+    }
+    found.sort();
+    found
+}
+
+fn stem(path: &Path) -> String {
+    path.file_stem().expect("a name").to_string_lossy().into_owned()
+}
+
+/// The names in a text, of Rattle or of the definitions.
+fn names(text: &str) -> BTreeSet<String> {
+    let parts = text.split(|c: char| c.is_whitespace() || "(){}[],;.:<>&\"`|λ⌜⌝".contains(c));
+    parts.filter(|p| !p.is_empty()).map(str::to_string).collect()
+}
+
+/// What stands between backticks.
+fn quoted(cell: &str) -> Vec<&str> {
+    cell.split('`').skip(1).step_by(2).collect()
+}
+
+/// The tables of a page, each as its rows of cells, the first one its head.
+fn tables(page: &str) -> Vec<Vec<Vec<&str>>> {
+    let mut found: Vec<Vec<Vec<&str>>> = Vec::new();
+    let mut inside = false;
+    for line in page.lines() {
+        if !line.starts_with('|') {
+            inside = false;
+            continue;
+        }
+        if !inside {
+            found.push(Vec::new());
+        }
+        inside = true;
+        if !line.starts_with("|--") {
+            let cells = line.trim_matches('|').split(" | ").map(str::trim).collect();
+            found.last_mut().expect("a table").push(cells);
+        }
+    }
+    found
+}
+
+// ---- the parts
+
+/// Every name in the tables stands in the sources.
+fn known(t: &mut Tally, page: &str, text: &str, sources: &BTreeSet<String>) {
+    for row in tables(text).into_iter().flatten() {
+        for span in row.iter().flat_map(|cell| quoted(cell)).filter(|s| !s.contains('"') && !Path::new(s).exists()) {
+            for name in names(span).iter().filter(|n| n.parse::<u64>().is_err()) {
+                t.check(sources.contains(name), &format!("{page}: `{name}` (in `{span}`) stands nowhere in the sources"));
+            }
+        }
+    }
+}
+
+/// Every law stands in the file beside it: 'CRATE/specs/FILE', or 'CRATE, CRATE and CRATE: specs/FILE'.
+fn laws(t: &mut Tally, proofs: &str) {
+    for table in tables(proofs).iter().filter(|x| x[0][0] == "law") {
+        for row in &table[1..] {
+            let paths: Vec<String> = match row[2].split_once(": ") {
+                Some((crates, file)) => crates.replace(" and ", ", ").split(", ").map(|c| format!("crates/{c}/{file}")).collect(),
+                None => vec![format!("crates/{}", row[2])],
+            };
+            for path in paths {
+                let stands = fs::read_to_string(&path).map(|s| names(&s)).unwrap_or_default();
+                for law in quoted(row[0]) {
+                    let operator = format!("_{law}_");
+                    t.check(stands.contains(law) || stands.contains(&operator), &format!("PROOFS.md: the law `{law}` does not stand in {path}"));
+                }
+            }
+        }
+    }
+}
+
+/// The public functions of a library, each as CRATE::FUNCTION or CRATE::TYPE::FUNCTION.
+fn public(library: &str, source: &str) -> Vec<String> {
+    let mut found = Vec::new();
+    let mut of = String::new();
+    for line in source.lines() {
+        if let Some(rest) = line.strip_prefix("impl ") {
+            of = format!("{}::", rest.split(' ').next().unwrap_or(""));
+        } else if line.starts_with('}') {
+            of.clear();
+        }
+        for head in ["pub fn ", "pub extern \"C\" fn "] {
+            if let Some(rest) = line.trim_start().strip_prefix(head) {
+                found.push(format!("{library}::{of}{}", rest.split('(').next().unwrap_or("")));
+            }
+        }
+    }
+    found
+}
+
+/// Every public function has a row, and every row a must-fail edit that is there; every edit is named.
+fn contracts(t: &mut Tally, proofs: &str, crates: &BTreeMap<String, BTreeSet<String>>) {
+    let mut rows = BTreeSet::new();
+    let mut named = BTreeSet::new();
+    for table in tables(proofs) {
+        let Some(column) = table[0].iter().position(|h| *h == "must-fail edit") else { continue };
+        for row in &table[1..] {
+            let function = quoted(row[0]).first().map(|s| s.to_string()).unwrap_or_default();
+            let mut library = function.split("::").next().unwrap_or("").to_string();
+            rows.insert(function);
+            for edit in row[column].split(", ") {
+                let parts: Vec<&str> = edit.split('/').collect();
+                if parts.len() > 1 {
+                    library = parts[0].to_string();
+                }
+                let edit = parts.last().expect("an edit").to_string();
+                t.check(crates.get(&library).is_some_and(|e| e.contains(&edit)), &format!("PROOFS.md: there is no edit {library}/{edit}"));
+                named.insert((library.clone(), edit));
+            }
+        }
+    }
+    for (library, edits) in crates {
+        let path = format!("crates/{library}/src/lib.rt");
+        for function in fs::read_to_string(path).map(|s| public(library, &s)).unwrap_or_default() {
+            t.check(rows.contains(&function), &format!("PROOFS.md: `{function}` has no row"));
+        }
+        for edit in edits {
+            t.check(named.contains(&(library.clone(), edit.clone())), &format!("PROOFS.md: the edit {library}/{edit} is not named"));
+        }
+    }
+}
+
+/// The page of planted faults has a row for each edit, and no other.
+fn faults(t: &mut Tally, page: &str) {
+    let rows: BTreeSet<String> = tables(page).iter().flat_map(|x| x[1..].iter().map(|r| r[0].to_string())).collect();
+    let mut edits = BTreeSet::new();
+    for path in files(Path::new("tests/faults"), ".edit") {
+        let folder = stem(path.parent().expect("a folder"));
+        edits.insert(format!("{folder}/{}", stem(&path)));
+    }
+    for edit in &edits {
+        t.check(rows.contains(edit), &format!("FAULTS.md: {edit} has no row"));
+    }
+    for row in &rows {
+        t.check(edits.contains(row), &format!("FAULTS.md: there is no edit {row}"));
+    }
+}
+
+/// Every link to a file of the repository leads to one.
+fn links(t: &mut Tally, path: &Path, page: &str) {
+    for target in page.split("](").skip(1).map(|s| s.split(')').next().unwrap_or("")) {
+        let file = target.split('#').next().unwrap_or("");
+        if !file.is_empty() && !target.contains("://") {
+            let there = path.parent().expect("a folder").join(file).exists();
+            t.check(there, &format!("{}: the link to {target} leads nowhere", path.display()));
+        }
+    }
+}
+
+fn main() {
+    let mut t = Tally::default();
+    let mut crates = BTreeMap::new();
+    let mut sources = BTreeSet::new();
+    for line in read("crates.txt").lines().filter(|l| !l.starts_with('#')) {
+        let Some((name, _)) = line.split_once(':') else { continue };
+        let name = name.trim().to_string();
+        let folder = Path::new("crates").join(&name);
+        for path in files(&folder, ".rt").iter().chain(&files(&folder, ".antt")) {
+            sources.extend(names(&read(path)));
+        }
+        let edits = files(&folder.join("must-fail"), ".edit").iter().map(|p| stem(p)).collect();
+        sources.insert(name.clone());
+        sources.extend(files(&folder, "stdout").iter().map(|p| stem(p)));
+        crates.insert(name, edits);
+    }
+    let proofs = read("docs/PROOFS.md");
+    known(&mut t, "PROOFS.md", &proofs, &sources);
+    known(&mut t, "ARCHITECTURE.md", &read("docs/ARCHITECTURE.md"), &sources);
+    laws(&mut t, &proofs);
+    contracts(&mut t, &proofs, &crates);
+    faults(&mut t, &read("docs/FAULTS.md"));
+    for path in files(Path::new("docs"), ".md").iter().chain(&[PathBuf::from("README.md")]) {
+        links(&mut t, path, &read(path));
+    }
+    println!("{} passed, {} failed", t.passed, t.failed);
+    process::exit(i32::from(t.failed != 0));
+}
