@@ -1,6 +1,5 @@
 -- The sense of an x64 entry (document 01, "Sense"): its line, with each operation's S by a sum over those run before it.
 -- Proved below: the text as the operations are run is this line's text, the line is well formed, and the law of the CFA.
--- Of the text's definitions it uses none.
 use mathlib.Core.Path.{_≡_, refl, sym, ap, _∙_}
 use Prim.Native.Nat.{ℕ, zero, suc, _+_, _-_, _*_}
 use native.Mathlib.Nat.{add-assoc}
@@ -17,7 +16,7 @@ use Rattle.text.specs.Tests.{is-true, all, all-append, and-l, both}
 use Rattle.text.specs.Digits.{hex, signed}
 use Rattle.names.specs.Names.{peName}
 use Rattle.lines.specs.Lines.{Bytes, Form, registerPlus, atRegisterPlus, atCfaMinus, Rule, rule, Line, init, cfa, formText, ruleText, rulesText, initText, lineText, render, nameOk, registerOk, formOk, ruleOk, lineOk}
-use Rattle.lines.specs.Lines.Laws.{rules-append, render-none, register-amount, cfa-amount}
+use Rattle.lines.specs.Lines.Laws.{rules-append, render-none, row}
 use Rattle.lines.specs.Rules.Laws.{pe-ok}
 use Rattle.entry.specs.declared.Judged.{Judged}
 use Rattle.entry.specs.declared.Judged.the-variants.{Refuse, Skip, Write}
@@ -25,7 +24,10 @@ use Rattle.entry.specs.declared.Last.{Last}
 use Rattle.entry.specs.Entry.{comesTo, ifWritten, word}
 use Rattle.x64.specs.declared.Op.{Op}
 use Rattle.x64.specs.declared.Op.the-variants.{PushNonVolatile, Alloc, SaveRsp, SaveFp, SetFpRegister, PushMachineFrame, Other, Undecodable}
-use Rattle.x64.specs.X64.{chain, growthOf, run, total, savedText, framedText, machineText, opText, cfaText, setText, isMachine, anyMachine, cfaOr, raText, rulesRun, x64Text, isSet, setCount, x64Judged, x64Entry}
+-- the body, for the sense
+use Rattle.x64.specs.X64.{chain, isMachine, anyMachine, x64Judged}
+-- the text, for the proofs
+use Rattle.x64.specs.X64.{growthOf, run, total, savedText, framedText, machineText, opText, cfaText, setText, cfaOr, raText, rulesRun, x64Text, isSet, setCount, x64Entry}
 
 -- ---- what an operation recovers, where its S is known
 
@@ -137,15 +139,15 @@ sum-total S (o ∷ os) = rw (← sum-total (S + growthOf o) os, ← added-growth
 
 pub saved-rule : (n : Bytes) (z : ℤ) → ruleText (rule n (atCfaMinus z)) ≡ savedText n z
 unfolding ruleText formText savedText
-saved-rule n z = cfa-amount (ascii " " ++ n) (signed z) (ascii " - ^")
+saved-rule n z = refl
 
 pub framed-rule : (n r : Bytes) (z : ℤ) → ruleText (rule n (atRegisterPlus r z)) ≡ framedText n r z
 unfolding ruleText formText framedText
-framed-rule n r z = register-amount (ascii " " ++ n ++ ascii ": ") r (signed z) (ascii " + ^")
+framed-rule n r z = row (ascii " " ++ n ++ ascii ": ") r (ascii " ") (signed z) (ascii " + ^")
 
 pub cfa-rule : (r : Bytes) (z : ℤ) → ruleText (rule cfa (registerPlus r z)) ≡ cfaText r z
 unfolding ruleText formText cfaText
-cfa-rule r z = register-amount (ascii " .cfa: ") r (signed z) (ascii " +")
+cfa-rule r z = row (ascii " .cfa: ") r (ascii " ") (signed z) (ascii " +")
 
 op-text : (S : ℕ) (o : Op) → rulesText (opRules S o) ≡ opText S o
 unfolding opRules opText machineText rulesText

@@ -73,9 +73,13 @@ valueOf (PushMachineFrame code) = 0
 valueOf Other = 0
 valueOf Undecodable = 0
 
+-- what stands at CFA - N: ".cfa N - ^"
+abbrev pub placeText : ℤ → List ℕ
+placeText n = ascii ".cfa " ++ signed n ++ ascii " - ^"
+
 -- " R: .cfa N - ^"
 unfoldable pub savedText : List ℕ → ℤ → List ℕ
-savedText name n = ascii " " ++ name ++ ascii ": .cfa " ++ signed n ++ ascii " - ^"
+savedText name n = ascii " " ++ name ++ ascii ": " ++ placeText n
 
 -- " R: F N + ^", F the frame register's name
 unfoldable pub framedText : List ℕ → List ℕ → ℤ → List ℕ

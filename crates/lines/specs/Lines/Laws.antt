@@ -6,9 +6,9 @@ use mathlib.Core.Bool.{Bool}
 use mathlib.Core.List.{List, [], _∷_, _++_, append-nil, append-assoc}
 use borrow.Author.Tests.{le-ltb}
 use lib.IntN.{pos, subℕ}
-use Rattle.text.specs.Text.{ascii, Put}
+use Rattle.text.specs.Text.{Put}
 use Rattle.text.specs.Text.Laws.{put-as}
-use Rattle.lines.specs.Lines.{Bytes, Rule, Line, cfa, ruleText, rulesText, lineText, render}
+use Rattle.lines.specs.Lines.{Bytes, Rule, Line, ruleText, rulesText, lineText, render}
 
 pub rules-append : (rs qs : List Rule) → rulesText (rs ++ qs) ≡ rulesText rs ++ rulesText qs
 unfolding rulesText
@@ -24,22 +24,9 @@ pub render-none : (six : Bool) → [] ≡ render six []
 unfolding render
 render-none six = refl
 
--- ---- the text of a rule, part by part
-
-flat : (i r d s e : Bytes) → i ++ (r ++ (d ++ s ++ e)) ≡ i ++ r ++ d ++ s ++ e
-flat i r d s e = simp append-assoc
-
-joined : (i a b c s e : Bytes) → (i ++ a) ++ (b ++ (c ++ s ++ e)) ≡ i ++ (a ++ (b ++ c)) ++ s ++ e
-joined i a b c s e = simp append-assoc
-
--- a number behind a register, and behind the CFA
-pub register-amount : (i r s e : Bytes) → i ++ (r ++ (ascii " " ++ s ++ e)) ≡ i ++ r ++ ascii " " ++ s ++ e
-register-amount i r s e = flat i r (ascii " ") s e
-
-pub cfa-amount : (i s e : Bytes) → (i ++ ascii ": ") ++ (cfa ++ (ascii " " ++ s ++ e)) ≡ i ++ ascii ": .cfa " ++ s ++ e
-cfa-amount i s e = joined i (ascii ": ") cfa (ascii " ") s e
-
--- ---- one rule, and a number that is no difference
+-- what stands in a row: a beginning, a register, a space, a number, the operators
+pub row : (i r s n o : Bytes) → i ++ (r ++ (s ++ n ++ o)) ≡ i ++ r ++ s ++ n ++ o
+row i r s n o = simp append-assoc
 
 pub put-one : {d d′ : List ℕ} {at r : ℕ} (q : Rule) → Put d at (ruleText q) d′ r → Put d at (rulesText (q ∷ [])) d′ r
 unfolding rulesText
