@@ -4,26 +4,12 @@
 //!
 //! Run from the repository's root. The last line is 'N passed, M failed'.
 
+mod tally;
+
 use std::collections::{BTreeMap, BTreeSet};
+use std::fs;
 use std::path::{Path, PathBuf};
-use std::{fs, process};
-
-#[derive(Default)]
-struct Tally {
-    passed: u32,
-    failed: u32,
-}
-
-impl Tally {
-    fn check(&mut self, ok: bool, what: &str) {
-        if ok {
-            self.passed += 1;
-        } else {
-            self.failed += 1;
-            println!("FAILED: {what}");
-        }
-    }
-}
+use tally::Tally;
 
 fn read(path: impl AsRef<Path>) -> String {
     let path = path.as_ref();
@@ -216,6 +202,5 @@ fn main() {
     for path in files(Path::new("docs"), ".md").iter().chain(&[PathBuf::from("README.md")]) {
         links(&mut t, path, &read(path));
     }
-    println!("{} passed, {} failed", t.passed, t.failed);
-    process::exit(i32::from(t.failed != 0));
+    t.end();
 }

@@ -3,27 +3,16 @@
 //!
 //! Arguments: the stored output, and the folder with the Rust source. The last line is 'N passed, M failed'.
 
+mod tally;
+
 use std::collections::BTreeSet;
-use std::{env, fs, process};
+use std::{env, fs};
+use tally::Tally;
 
 const SOURCE: &str = "src--symbolic-cfi--src--lib.rs.txt";
 const TYPES: &str = "src--symbolic-common--src--types.rs.txt";
 
-struct Tally {
-    passed: u32,
-    failed: u32,
-}
-
 impl Tally {
-    fn check(&mut self, ok: bool, what: &str) {
-        if ok {
-            self.passed += 1;
-        } else {
-            self.failed += 1;
-            println!("FAILED: {what}");
-        }
-    }
-
     /// The lines that start with `word` are just these, in this order.
     fn lines(&mut self, output: &str, word: &str, expected: &[String]) {
         let found: Vec<&str> = rows(output, word);
@@ -181,14 +170,13 @@ fn lines(t: &mut Tally, output: &str) {
 fn main() {
     let args: Vec<String> = env::args().collect();
     let output = fs::read_to_string(&args[1]).expect("the stored output");
-    let mut t = Tally { passed: 0, failed: 0 };
+    let mut t = Tally::default();
     names(&mut t, &output, &args[2]);
     pe_and_arm64(&mut t, &output);
     numbers(&mut t, &output);
     rules(&mut t, &output);
     lines(&mut t, &output);
-    let known = ["cfi", "pe", "arm64", "hex", "decimal", "signed", "part", "measured", "rule", "init", "later", "win"];
+    let known = ["cfi", "pe", "arm64", "hex", "decimal", "signed", "measured", "rule", "init", "later", "win"];
     t.check(output.lines().all(|l| known.contains(&l.split(' ').next().unwrap())), "a line of no kind");
-    println!("{} passed, {} failed", t.passed, t.failed);
-    process::exit(if t.failed == 0 { 0 } else { 1 });
+    t.end();
 }
