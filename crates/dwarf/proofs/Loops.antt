@@ -10,17 +10,15 @@ use borrow.Author.Tests.{lt-ltb, le-ltb, lt-leb, le-leb, leb-false, ltb-true, lt
 use Rattle.text.specs.Text.{MAX, Put, Left}
 use Rattle.text.specs.Text.Laws.{left-all, left-put, left-as, left-none}
 use Rattle.text.specs.Tests.{and-l, and-r}
-use Rattle.lines.specs.Lines.{rulesText, render}
-use Rattle.lines.specs.Lines.Laws.{rules-append, render-append}
 use Rattle.dwarf.specs.declared.RegisterRule.{RegisterRule}
 use Rattle.dwarf.specs.declared.RuleCache.{RuleCache}
 use Rattle.dwarf.specs.declared.Met.{Met}
 use Rattle.dwarf.specs.declared.RowState.{RowState}
 use Rattle.dwarf.specs.declared.Fde.{Fde}
 use Rattle.entry.specs.Entry.{word}
-use Rattle.dwarf.specs.Dwarf.{wide, ruleAt, rulesFrom, ruleCount, nextRow, rowAt, rowsFrom, rowCount, rows, lastEnd, anyBelow, registers, distinct, rulesOf, member, once, rowFits, rowsFit, dwarfLayout, Seen, differs, remember, ruleRules, seenAfter, ranRules, ranMoved, ranRow, ranRows, CfaSeen, noCfa, lastCfa, nothingSeen}
+use Rattle.dwarf.specs.Dwarf.{wide, ruleAt, rulesFrom, ruleCount, nextRow, rowAt, rowsFrom, rowCount, rows, lastEnd, anyBelow, registers, distinct, rulesOf, member, once, rowFits, rowsFit, dwarfLayout, Seen, differs, remember, any, ruleBytes, seenAfter, ranRules, ranMoved, ranRow, ranRows, CfaSeen, noCfa, lastCfa, nothingSeen}
 use Rattle.dwarf.proofs.Store.{newly-few}
-use Rattle.dwarf.specs.Cache.{placeOf, lookup, newly, fresh, any, cfaOf, Known, Scanned, After}
+use Rattle.dwarf.specs.Cache.{placeOf, lookup, newly, fresh, cfaOf, Known, Scanned, After}
 use Rattle.dwarf.specs.Index.{rules-step, rows-step, rows-fit-step, row-few, row-bound, layout-few, layout-rows, layout-distinct, fresh-append, fresh-distinct}
 
 -- ---- over rows: m are left, from word a on
@@ -145,7 +143,7 @@ module _ {ws : List ℕ} {c₀ : RuleCache} {from n : ℕ} {c : RuleCache} {a k 
 
 -- ---- the first pass over a row's rules: whether something is written, and whether the return register's rule changed
 
-pub any-append : {A : Type 0} (xs ys : List A) → any (xs ++ ys) ≡ (any xs || any ys)
+pub any-append : (xs ys : List ℕ) → any (xs ++ ys) ≡ (any xs || any ys)
 unfolding any
 any-append [] ys = refl
 any-append (x ∷ xs) ys = refl
@@ -160,12 +158,12 @@ scan-all h = record { rules = rules-all h; writes = refl; moves = refl }
 
 module _ {ws : List ℕ} {f ra : ℕ} {already : Bool} {c₀ : RuleCache} {from n : ℕ} {c : RuleCache} {written moved : Bool} {a k : ℕ} where
   next-writes : ScanLeft ws f ra already c₀ from n c written moved a k → 0 < k
-      → (written || (any (cond (differs (lookup c (ruleAt ws a .register)) (ruleAt ws a .kind) (ruleAt ws a .value)) (ruleRules f ra (ruleAt ws a)) [])
+      → (written || (any (cond (differs (lookup c (ruleAt ws a .register)) (ruleAt ws a .kind) (ruleAt ws a .value)) (ruleBytes f ra (ruleAt ws a)) [])
       || any (ranRules f ra (remember (lookup c) (ruleAt ws a)) (rulesFrom ws (k - 1) (a + 4)))))
       ≡ (already || any (ranRules f ra (lookup c₀) (rulesFrom ws n from)))
   unfolding ranRules
   next-writes l h =
-      ap (λ (t : Bool). written || t) (sym (any-append (cond (differs (lookup c (ruleAt ws a .register)) (ruleAt ws a .kind) (ruleAt ws a .value)) (ruleRules f ra (ruleAt ws a)) []) _))
+      ap (λ (t : Bool). written || t) (sym (any-append (cond (differs (lookup c (ruleAt ws a .register)) (ruleAt ws a .kind) (ruleAt ws a .value)) (ruleBytes f ra (ruleAt ws a)) []) _))
       ∙ (rw (rules-step ws k a h) at (l .writes))
 
   next-moves : ScanLeft ws f ra already c₀ from n c written moved a k → 0 < k
@@ -178,7 +176,7 @@ module _ {ws : List ℕ} {f ra : ℕ} {already : Bool} {c₀ : RuleCache} {from 
   pub scan-turn : {c₁ : RuleCache} {x : RegisterRule} {w m : Bool} → ScanLeft ws f ra already c₀ from n c written moved a k → 0 < k → x ≡ ruleAt ws a
       → c₀ .count + fresh (lookup c₀) (rulesFrom ws n from) ≤ 64
       → c₁ .count ≡ c .count + newly (lookup c (x .register)) → lookup c₁ ≡ remember (lookup c) x
-      → w ≡ (written || any (cond (differs (lookup c (x .register)) (x .kind) (x .value)) (ruleRules f ra x) []))
+      → w ≡ (written || any (cond (differs (lookup c (x .register)) (x .kind) (x .value)) (ruleBytes f ra x) []))
       → m ≡ (moved || (eqb (x .register) ra && differs (lookup c (x .register)) (x .kind) (x .value)))
       → ScanLeft ws f ra already c₀ from n c₁ w m (a + 4) (k - 1)
   scan-turn {c₁} {x} {w} {m} l h i room e s y z = record {
@@ -201,28 +199,28 @@ module _ {ws : List ℕ} {f ra : ℕ} {already : Bool} {c₀ : RuleCache} {from 
 
 pub record PutLeft (ws : List ℕ) (f ra : ℕ) (c₀ : RuleCache) (from n : ℕ) (d : List ℕ) (at : ℕ) (d₁ : List ℕ) (c : RuleCache) (p a k : ℕ) : Type 0 where
   pub rules : RulesLeft ws c₀ from n c a k
-  pub text : Left d at (rulesText (ranRules f ra (lookup c₀) (rulesFrom ws n from))) d₁ p (rulesText (ranRules f ra (lookup c) (rulesFrom ws k a)))
+  pub text : Left d at (ranRules f ra (lookup c₀) (rulesFrom ws n from)) d₁ p (ranRules f ra (lookup c) (rulesFrom ws k a))
 
 module _ {ws : List ℕ} {f ra : ℕ} {c₀ : RuleCache} {from n : ℕ} {d : List ℕ} {at : ℕ} {d₁ : List ℕ} {c : RuleCache} {p a k : ℕ} where
   next-text : PutLeft ws f ra c₀ from n d at d₁ c p a k → 0 < k
-      → Left d at (rulesText (ranRules f ra (lookup c₀) (rulesFrom ws n from))) d₁ p
-      (rulesText (cond (differs (lookup c (ruleAt ws a .register)) (ruleAt ws a .kind) (ruleAt ws a .value)) (ruleRules f ra (ruleAt ws a)) [])
-      ++ rulesText (ranRules f ra (remember (lookup c) (ruleAt ws a)) (rulesFrom ws (k - 1) (a + 4))))
+      → Left d at (ranRules f ra (lookup c₀) (rulesFrom ws n from)) d₁ p
+      (cond (differs (lookup c (ruleAt ws a .register)) (ruleAt ws a .kind) (ruleAt ws a .value)) (ruleBytes f ra (ruleAt ws a)) []
+      ++ ranRules f ra (remember (lookup c) (ruleAt ws a)) (rulesFrom ws (k - 1) (a + 4)))
   unfolding ranRules
-  next-text l h = left-as (rw (rules-step ws k a h) at (l .text)) (rules-append (cond (differs (lookup c (ruleAt ws a .register)) (ruleAt ws a .kind) (ruleAt ws a .value)) (ruleRules f ra (ruleAt ws a)) []) _)
+  next-text l h = rw (rules-step ws k a h) at (l .text)
 
   pub put-turn : {c₁ : RuleCache} {x : RegisterRule} {d₂ : List ℕ} {q : ℕ} → PutLeft ws f ra c₀ from n d at d₁ c p a k → 0 < k → x ≡ ruleAt ws a
       → c₀ .count + fresh (lookup c₀) (rulesFrom ws n from) ≤ 64
       → c₁ .count ≡ c .count + newly (lookup c (x .register)) → lookup c₁ ≡ remember (lookup c) x
-      → Put d₁ p (rulesText (cond (differs (lookup c (x .register)) (x .kind) (x .value)) (ruleRules f ra x) [])) d₂ q
+      → Put d₁ p (cond (differs (lookup c (x .register)) (x .kind) (x .value)) (ruleBytes f ra x) []) d₂ q
       → PutLeft ws f ra c₀ from n d at d₂ c₁ q (a + 4) (k - 1)
   put-turn {c₁} {x} {d₂} {q} l h i room e s y = record {
     rules = rules-turn (l .rules) h i (rules-room (l .rules) h i room) e s;
     text = rw (rw i at s) (left-put (next-text l h) (rw i at y));
   }
 
-  pub put-done : PutLeft ws f ra c₀ from n d at d₁ c p a k → k ≤ 0 → Put d at (rulesText (ranRules f ra (lookup c₀) (rulesFrom ws n from))) d₁ p
-  unfolding rulesFrom ranRules rulesText
+  pub put-done : PutLeft ws f ra c₀ from n d at d₁ c p a k → k ≤ 0 → Put d at (ranRules f ra (lookup c₀) (rulesFrom ws n from)) d₁ p
+  unfolding rulesFrom ranRules
   put-done l h = let z : k ≡ 0 = omega arith in left-none (rw z at (l .text))
 
 -- ---- over all rows: the registers met, and the lines
@@ -276,7 +274,7 @@ module _ {ws : List ℕ} {c : RuleCache} {a m : ℕ} where
 pub record RowsLeft (ws : List ℕ) (e : Fde) (d : List ℕ) (at : ℕ) (d₁ : List ℕ) (p : ℕ) (s : RowState) (a m : ℕ) : Type 0 where
   pub rest : Rest ws a m
   pub room : s .rules .count + fresh (lookup (s .rules)) (rulesOf (rowsFrom ws m a)) ≤ 64
-  pub text : Left d at (render false (ranRows e noCfa nothingSeen (rows ws))) d₁ p (render false (ranRows e (cfaOf s) (lookup (s .rules)) (rowsFrom ws m a)))
+  pub text : Left d at (ranRows e noCfa nothingSeen (rows ws)) d₁ p (ranRows e (cfaOf s) (lookup (s .rules)) (rowsFrom ws m a))
 
 pub lines-all : {ws : List ℕ} {e : Fde} {d : List ℕ} {at : ℕ} {s : RowState} → T (dwarfLayout ws) → cfaOf s ≡ noCfa → s .rules .count ≡ 0 → lookup (s .rules) ≡ nothingSeen
     → length d ≤ MAX → at ≤ MAX → RowsLeft ws e d at d at s 7 (rowCount ws)
@@ -284,7 +282,7 @@ unfolding rows
 lines-all {ws} {e} {d} {at} {s} h i j k u v = record {
   rest = rest-all h;
   room = omega (arith, layout-distinct ws h, fresh-distinct (rulesOf (rowsFrom ws (rowCount ws) 7)), ap (λ (g : ℕ → Seen). fresh g (rulesOf (rowsFrom ws (rowCount ws) 7))) k);
-  text = left-as (left-all u v) (ap₂ (λ (x : CfaSeen) (g : ℕ → Seen). render false (ranRows e x g (rowsFrom ws (rowCount ws) 7))) (sym i) (sym k));
+  text = left-as (left-all u v) (ap₂ (λ (x : CfaSeen) (g : ℕ → Seen). ranRows e x g (rowsFrom ws (rowCount ws) 7)) (sym i) (sym k));
 }
 
 module _ {ws : List ℕ} {e : Fde} {d : List ℕ} {at : ℕ} {d₁ : List ℕ} {p : ℕ} {s : RowState} {a m : ℕ} where
@@ -292,14 +290,14 @@ module _ {ws : List ℕ} {e : Fde} {d : List ℕ} {at : ℕ} {d₁ : List ℕ} {
   row-room l h = omega (arith, l .room, fresh-rows ws (lookup (s .rules)) a m h)
 
   next-row : RowsLeft ws e d at d₁ p s a m → 0 < m
-      → Left d at (render false (ranRows e noCfa nothingSeen (rows ws))) d₁ p
-      (render false (ranRow e (cfaOf s) (lookup (s .rules)) (rowAt ws a))
-      ++ render false (ranRows e (lastCfa (rowAt ws a .cfa)) (seenAfter (lookup (s .rules)) (rowAt ws a .rules)) (rowsFrom ws (m - 1) (nextRow ws a))))
+      → Left d at (ranRows e noCfa nothingSeen (rows ws)) d₁ p
+      (ranRow e (cfaOf s) (lookup (s .rules)) (rowAt ws a)
+      ++ ranRows e (lastCfa (rowAt ws a .cfa)) (seenAfter (lookup (s .rules)) (rowAt ws a .rules)) (rowsFrom ws (m - 1) (nextRow ws a)))
   unfolding ranRows
-  next-row l h = left-as (rw (rows-step ws m a h) at (l .text)) (render-append false (ranRow e (cfaOf s) (lookup (s .rules)) (rowAt ws a)) _)
+  next-row l h = rw (rows-step ws m a h) at (l .text)
 
   pub lines-turn : {d₂ : List ℕ} {q : ℕ} {r : RowState} → RowsLeft ws e d at d₁ p s a m → 0 < m
-      → Put d₁ p (render false (ranRow e (cfaOf s) (lookup (s .rules)) (rowAt ws a))) d₂ q → After s (rowAt ws a) r
+      → Put d₁ p (ranRow e (cfaOf s) (lookup (s .rules)) (rowAt ws a)) d₂ q → After s (rowAt ws a) r
       → RowsLeft ws e d at d₂ q r (nextRow ws a) (m - 1)
   lines-turn {d₂} {q} {r} l h x y = record {
     rest = rest-turn (l .rest) h;
@@ -310,9 +308,9 @@ module _ {ws : List ℕ} {e : Fde} {d : List ℕ} {at : ℕ} {d₁ : List ℕ} {
       y .counts,
       ap (λ (g : ℕ → Seen). fresh g (rulesOf (rowsFrom ws (m - 1) (nextRow ws a)))) (y .sees),
     );
-    text = left-as (left-put (next-row l h) x) (ap₂ (λ (x : CfaSeen) (g : ℕ → Seen). render false (ranRows e x g (rowsFrom ws (m - 1) (nextRow ws a)))) (sym (y .cfa-is)) (sym (y .sees)));
+    text = left-as (left-put (next-row l h) x) (ap₂ (λ (x : CfaSeen) (g : ℕ → Seen). ranRows e x g (rowsFrom ws (m - 1) (nextRow ws a))) (sym (y .cfa-is)) (sym (y .sees)));
   }
 
-  pub lines-done : RowsLeft ws e d at d₁ p s a m → m ≤ 0 → Put d at (render false (ranRows e noCfa nothingSeen (rows ws))) d₁ p
-  unfolding rowsFrom ranRows render
+  pub lines-done : RowsLeft ws e d at d₁ p s a m → m ≤ 0 → Put d at (ranRows e noCfa nothingSeen (rows ws)) d₁ p
+  unfolding rowsFrom ranRows
   lines-done l h = let z : m ≡ 0 = omega arith in left-none (rw z at (l .text))

@@ -1,11 +1,11 @@
 -- The rules last seen as the code keeps them: arrays with a count, and what they say of each register.
 use mathlib.Core.Path.{_≡_}
-use mathlib.Core.Bool.{Bool, true, false, cond, _||_}
+use mathlib.Core.Bool.{Bool, false, cond, _||_}
 use mathlib.Core.List.{List, [], _∷_}
 use Prim.Native.Nat.{ℕ, suc, _+_}
 use lib.ListN.{take, getD}
 use lib.Dec.{eqb, ltb}
-use Rattle.lines.specs.Lines.{Form, Rule}
+use Rattle.lines.specs.Lines.{formText, ruleText}
 use Rattle.lines.specs.Rules.{formOf, ruleOf}
 use Rattle.dwarf.specs.declared.RegisterRule.{RegisterRule}
 use Rattle.dwarf.specs.declared.RuleCache.{RuleCache}
@@ -14,7 +14,7 @@ use Rattle.dwarf.specs.declared.RowScan.{RowScan}
 use Rattle.dwarf.specs.declared.Met.{Met}
 use Rattle.dwarf.specs.declared.Formed.{Formed}
 use Rattle.dwarf.specs.declared.Formatted.{Formatted}
-use Rattle.dwarf.specs.Dwarf.{Seen, never, seen, CfaSeen, noCfa, lastCfa, remember, Row, seenAfter, ranRules, ranMoved}
+use Rattle.dwarf.specs.Dwarf.{Seen, never, seen, CfaSeen, noCfa, lastCfa, remember, Row, any, seenAfter, ranRules, ranMoved}
 
 -- the first place of q in a list, or the list's length
 unfoldable pub firstIn : List ℕ → ℕ → ℕ
@@ -49,19 +49,18 @@ fresh c (x ∷ xs) = newly (c (x .register)) + fresh (remember c x) xs
 
 -- ---- what the code hands on of forms and rules that may not be there
 
--- the form, if there is one
-unfoldable pub formed : Formed → List Form
-formed f = cond (f .some) (formOf (f .form) ∷ []) []
+-- the bytes of the form, if there is one
+unfoldable pub formed : Formed → List ℕ
+formed f = cond (f .some) (formText (formOf (f .form))) []
 
--- the rule, if there is one
-unfoldable pub formatted : Formatted → List Rule
-formatted f = cond (f .some) (ruleOf (f .rule) ∷ []) []
+-- the form's bytes are t, and there is one where there are any
+pub record Forms (t : List ℕ) (f : Formed) : Type 0 where
+  pub some-is : f .some ≡ any t
+  pub bytes-are : formed f ≡ t
 
-module _ {A : Type 0} where
-  -- is there anything
-  unfoldable pub any : List A → Bool
-  any [] = false
-  any (x ∷ xs) = true
+-- the bytes of the rule, if there is one
+unfoldable pub formatted : Formatted → List ℕ
+formatted f = cond (f .some) (ruleText (ruleOf (f .rule))) []
 
 -- ---- what loops over a row's rules, from the rules c last seen on, come to
 

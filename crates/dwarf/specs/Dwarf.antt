@@ -1,4 +1,4 @@
--- A DWARF body (document 01, "DWARF body"): its rows from the words, refusals 4 and 6, skipping, and its lines as the rows are run.
+-- A DWARF body (document 01, "DWARF body"): its rows from the words, refusals 4 and 6, skipping, and its text in bytes, as the rows are run.
 -- A body's words are ws; a word that is missing reads 0.
 use Prim.Native.Nat.{ℕ, zero, suc, _+_, _-_, _*_, _^_}
 use mathlib.Core.Bool.{Bool, true, false, not, cond, _&&_, _||_}
@@ -7,8 +7,8 @@ use lib.ListN.{length}
 use lib.IntN.{ℤ, pos, negsuc}
 use lib.Dec.{ltb, leb, eqb}
 use Rattle.text.specs.Text.{ascii}
+use Rattle.text.specs.Digits.{hex, signed, Digits·open}
 use Rattle.names.specs.Names.{cfiName, table, i386, x86-64, arm, arm64, ppc, mips}
-use Rattle.lines.specs.Lines.{Bytes, Form, register, registerPlus, cfaPlus, atCfaPlus, Rule, rule, Line, init, later, cfa, render, Lines·open}
 use Rattle.entry.specs.declared.Last.{Last}
 use Rattle.entry.specs.declared.Judged.{Judged}
 use Rattle.entry.specs.declared.Judged.the-variants.{Refuse, Skip, Write}
@@ -184,56 +184,55 @@ unfoldable pub dwarfJudged : List ℕ → Judged
 dwarfJudged ws =
     cond (dwarfLayout ws) (cond (dwarfSkipped ws) Skip (cond (eqb (dwarfReach ws) 0) Write (Refuse (dwarfReach ws)))) (Refuse 4)
 
--- ---- what a rule and a CFA write: nothing where a name lacks. An empty name is none.
+-- ---- what a rule and a CFA write, in bytes: none where a name lacks. An empty name is none.
 
--- the form of a register that has a name
-unfoldable pub nameForm : Bytes → List Form
-nameForm [] = []
-nameForm (c ∷ n) = register (c ∷ n) ∷ []
+-- is there anything
+unfoldable pub any : List ℕ → Bool
+any [] = false
+any (b ∷ bs) = true
 
--- same (0), offset (1), value offset (2), register (3), other
-unfoldable pub ruleForms : ℕ → RegisterRule → List Form
-ruleForms f x =
-    cond (eqb (x .kind) 0) (nameForm (cfiName f (x .register))) (cond (eqb (x .kind) 1) (atCfaPlus (twos (x .value)) ∷ [])
-    (cond (eqb (x .kind) 2) (cfaPlus (twos (x .value)) ∷ []) (cond (eqb (x .kind) 3) (nameForm (cfiName f (x .value))) [])))
+-- behind the colon: Q for same (0) and register (3), ".cfa N + ^" for offset (1), ".cfa N +" for value offset (2), nothing for other
+unfoldable pub formBytes : ℕ → RegisterRule → List ℕ
+formBytes f x =
+    cond (eqb (x .kind) 0) (cfiName f (x .register)) (cond (eqb (x .kind) 1) (ascii ".cfa " ++ signed (twos (x .value)) ++ ascii " + ^")
+    (cond (eqb (x .kind) 2) (ascii ".cfa " ++ signed (twos (x .value)) ++ ascii " +") (cond (eqb (x .kind) 3) (cfiName f (x .value)) [])))
 
--- a rule, where both the name and the form are there
-unfoldable pub named : Bytes → List Form → List Rule
-named n [] = []
-named [] (f ∷ fs) = []
-named (c ∷ n) (f ∷ fs) = rule (c ∷ n) f ∷ []
+-- " R: Q"; a rule lacking a name is not written, nor one with nothing behind the colon
+unfoldable pub namedBytes : List ℕ → List ℕ → List ℕ
+namedBytes n t = cond (any n && any t) (ascii " " ++ n ++ ascii ": " ++ t) []
 
--- .ra for the return register
-unfoldable pub ruleRules : ℕ → ℕ → RegisterRule → List Rule
-ruleRules f ra x = named (cond (eqb (x .register) ra) (ascii ".ra") (cfiName f (x .register))) (ruleForms f x)
+-- R is .ra for the return register
+unfoldable pub ruleBytes : ℕ → ℕ → RegisterRule → List ℕ
+ruleBytes f ra x = namedBytes (cond (eqb (x .register) ra) (ascii ".ra") (cfiName f (x .register))) (formBytes f x)
 
--- " .cfa: R N +"
-unfoldable pub cfaPlusRules : Bytes → ℤ → List Rule
-cfaPlusRules [] z = []
-cfaPlusRules (c ∷ n) z = rule cfa (registerPlus (c ∷ n) z) ∷ []
+-- " .cfa: R N +"; an expression writes nothing
+unfoldable pub cfaBytes : ℕ → CfaRule → List ℕ
+cfaBytes f x =
+    cond (eqb (x .kind) 0 && any (cfiName f (x .register)))
+    (ascii " .cfa: " ++ cfiName f (x .register) ++ (ascii " " ++ signed (twos (x .offset)) ++ ascii " +")) []
 
--- an expression writes nothing
-unfoldable pub cfaRules : ℕ → CfaRule → List Rule
-cfaRules f x = cond (eqb (x .kind) 0) (cfaPlusRules (cfiName f (x .register)) (twos (x .offset))) []
+-- families 3 to 9 add " .ra: Q" with the return register's name, if any
+unfoldable pub raBytes : ℕ → ℕ → List ℕ
+raBytes f ra = cond ((leb 3 f && leb f 9) && any (cfiName f ra)) (ascii " .ra: " ++ cfiName f ra) []
 
--- the default of families 3 to 9
-unfoldable pub raRules : ℕ → ℕ → List Rule
-raRules f ra = named (ascii ".ra") (cond (leb 3 f && leb f 9) (nameForm (cfiName f ra)) [])
+-- ---- a row's line: its rules' bytes are ts, and `moved` says that the return register's rule changed
 
--- ---- a row's line: its rules are rs, and `moved` says that the return register's rule changed
+-- the default: at the first start, where the return register's rule did not change
+unfoldable pub defaultBytes : Fde → ℕ → Bool → List ℕ
+defaultBytes e start moved = cond (eqb start (e .start) && not moved) (raBytes (e .family) (e .ra)) []
 
--- at the first start, where the return register's rule did not change
-unfoldable pub defaultRules : Fde → ℕ → Bool → List Rule
-defaultRules e start moved = cond (eqb start (e .start) && not moved) (raRules (e .family) (e .ra)) []
+-- INIT, with the size, at the first start; addresses less the load address
+unfoldable pub startBytes : Fde → ℕ → List ℕ
+startBytes e start =
+    cond (eqb start (e .start)) (ascii "STACK CFI INIT " ++ hex (start - e .load) ++ ascii " " ++ hex (e .length)) (ascii "STACK CFI " ++ hex (start - e .load))
 
--- INIT at the first start; addresses less the load address
-unfoldable pub lineOf : Fde → ℕ → List Rule → Line
-lineOf e start rs = cond (eqb start (e .start)) (init (start - e .load) (e .length) rs) (later (start - e .load) rs)
+-- the line with its newline
+unfoldable pub lineBytes : Fde → ℕ → List ℕ → Bool → List ℕ
+lineBytes e start ts moved = startBytes e start ++ ts ++ defaultBytes e start moved ++ ascii "\n"
 
--- with nothing but a default it is dropped
-unfoldable pub rowLine : Fde → ℕ → List Rule → Bool → List Line
-rowLine e start [] moved = []
-rowLine e start (r ∷ rs) moved = lineOf e start ((r ∷ rs) ++ defaultRules e start moved) ∷ []
+-- a line with nothing else written is dropped
+unfoldable pub rowBytes : Fde → ℕ → List ℕ → Bool → List ℕ
+rowBytes e start ts moved = cond (any ts) (lineBytes e start ts moved) []
 
 -- ---- the rows as they are run: the CFA last seen, and the rules last seen, by register
 
@@ -271,9 +270,9 @@ seenAfter c [] = c
 seenAfter c (x ∷ xs) = seenAfter (remember c x) xs
 
 -- what they write, one after the other
-unfoldable pub ranRules : ℕ → ℕ → (ℕ → Seen) → List RegisterRule → List Rule
+unfoldable pub ranRules : ℕ → ℕ → (ℕ → Seen) → List RegisterRule → List ℕ
 ranRules f ra c [] = []
-ranRules f ra c (x ∷ xs) = cond (differs (c (x .register)) (x .kind) (x .value)) (ruleRules f ra x) [] ++ ranRules f ra (remember c x) xs
+ranRules f ra c (x ∷ xs) = cond (differs (c (x .register)) (x .kind) (x .value)) (ruleBytes f ra x) [] ++ ranRules f ra (remember c x) xs
 
 -- whether the return register's rule changes
 unfoldable pub ranMoved : ℕ → (ℕ → Seen) → List RegisterRule → Bool
@@ -281,15 +280,15 @@ ranMoved ra c [] = false
 ranMoved ra c (x ∷ xs) = (eqb (x .register) ra && differs (c (x .register)) (x .kind) (x .value)) || ranMoved ra (remember c x) xs
 
 -- a row's CFA, then its rules
-unfoldable pub ranOf : Fde → CfaSeen → (ℕ → Seen) → Row → List Rule
-ranOf e s c w = cond (cfaDiffers s (w .cfa)) (cfaRules (e .family) (w .cfa)) [] ++ ranRules (e .family) (e .ra) c (w .rules)
+unfoldable pub ranOf : Fde → CfaSeen → (ℕ → Seen) → Row → List ℕ
+ranOf e s c w = cond (cfaDiffers s (w .cfa)) (cfaBytes (e .family) (w .cfa)) [] ++ ranRules (e .family) (e .ra) c (w .rules)
 
 -- a row against what was last seen
-unfoldable pub ranRow : Fde → CfaSeen → (ℕ → Seen) → Row → List Line
-ranRow e s c w = rowLine e (w .start) (ranOf e s c w) (ranMoved (e .ra) c (w .rules))
+unfoldable pub ranRow : Fde → CfaSeen → (ℕ → Seen) → Row → List ℕ
+ranRow e s c w = rowBytes e (w .start) (ranOf e s c w) (ranMoved (e .ra) c (w .rules))
 
 -- all rows, each against what those before left
-unfoldable pub ranRows : Fde → CfaSeen → (ℕ → Seen) → List Row → List Line
+unfoldable pub ranRows : Fde → CfaSeen → (ℕ → Seen) → List Row → List ℕ
 ranRows e s c [] = []
 ranRows e s c (w ∷ ws) = ranRow e s c w ++ ranRows e (lastCfa (w .cfa)) (seenAfter c (w .rules)) ws
 
@@ -297,9 +296,9 @@ ranRows e s c (w ∷ ws) = ranRow e s c w ++ ranRows e (lastCfa (w .cfa)) (seenA
 unfoldable pub nothingSeen : ℕ → Seen
 nothingSeen q = never
 
--- the lines of all rows
+-- the text of all rows
 unfoldable pub dwarfText : List ℕ → List ℕ
-dwarfText ws = render false (ranRows (fdeOf ws) noCfa nothingSeen (rows ws))
+dwarfText ws = ranRows (fdeOf ws) noCfa nothingSeen (rows ws)
 
 -- DWARF passes on what was left to it
 unfoldable pub dwarfEntry : Last → List ℕ → Entry
@@ -307,5 +306,5 @@ dwarfEntry last ws = comesTo (dwarfJudged ws) (dwarfText ws) last last
 
 -- what to unfold where DWARF entries are to compute
 unfoldable pub Dwarf·open : Type 0
-unfolding Lines·open cfiName table i386 x86-64 arm arm64 ppc mips wide twos usedValue ruleAt rulesFrom cfaAt rowsFrom rows firstStart lastEnd fdeOf registers member once distinct ruleFits rulesFit cfaFits rowFits rowsFit rulesOf headFits dwarfLayout dwarfSkipped anyBelow dwarfReach dwarfJudged nameForm ruleForms named ruleRules cfaPlusRules cfaRules raRules defaultRules lineOf rowLine seenAfter ranRules ranMoved ranOf ranRow ranRows nothingSeen dwarfText dwarfEntry
+unfolding Digits·open cfiName table i386 x86-64 arm arm64 ppc mips wide twos usedValue ruleAt rulesFrom cfaAt rowsFrom rows firstStart lastEnd fdeOf registers member once distinct ruleFits rulesFit cfaFits rowFits rowsFit rulesOf headFits dwarfLayout dwarfSkipped anyBelow dwarfReach dwarfJudged any formBytes namedBytes ruleBytes cfaBytes raBytes defaultBytes startBytes lineBytes rowBytes seenAfter ranRules ranMoved ranOf ranRow ranRows nothingSeen dwarfText dwarfEntry
 Dwarf·open = Unit {0}

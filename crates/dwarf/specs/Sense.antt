@@ -1,18 +1,19 @@
 -- The sense of a DWARF entry (document 01, "Sense"): its lines, each rule judged by the last earlier row that names its register.
--- Proved below: the text as the rows are run is these lines' text, and the lines are well formed.
+-- The definitions use nothing of the text. Proved below: the text, in bytes as the rows are run, is these lines' text, and the lines are well formed.
 use mathlib.Core.Path.{_≡_, refl, sym, ap, ap₂, _∙_, fun-ext}
 use Prim.Native.Nat.{ℕ, zero, suc, _+_, _-_}
 use native.Mathlib.Omega.{arith}
 use mathlib.Core.Bool.{Bool, true, false, not, cond, _&&_, _||_}
-use mathlib.Core.List.{List, [], _∷_, _++_}
+use mathlib.Core.List.{List, [], _∷_, _++_, append-assoc, append-nil}
 use lib.IntN.{ℤ}
 use lib.Dec.{T, eqb, leb}
 use borrow.Author.Tests.{ne-eqb, eqb-false}
 use Rattle.text.specs.Text.{ascii}
+use Rattle.text.specs.Digits.{hex, signed}
 use Rattle.text.specs.Tests.{is-false, all, all-append, and-l, and-r, both, either}
 use Rattle.names.specs.Names.{cfiName}
-use Rattle.lines.specs.Lines.{Bytes, Form, atCfaPlus, cfaPlus, Rule, rule, Line, init, later, render, nameOk, registerOk, formOk, ruleOk, lineOk}
-use Rattle.lines.specs.Lines.Laws.{render-none}
+use Rattle.lines.specs.Lines.{Bytes, Form, register, registerPlus, cfaPlus, atCfaPlus, Rule, rule, Line, init, later, cfa, formText, ruleText, rulesText, initText, laterText, lineText, render, nameOk, registerOk, formOk, ruleOk, lineOk}
+use Rattle.lines.specs.Lines.Laws.{rules-append, render-append, render-none}
 use Rattle.lines.specs.Rules.Laws.{cfi-ok}
 use Rattle.entry.specs.declared.Judged.{Judged}
 use Rattle.entry.specs.declared.Judged.the-variants.{Refuse, Skip, Write}
@@ -21,7 +22,10 @@ use Rattle.entry.specs.Entry.{comesTo, ifWritten}
 use Rattle.dwarf.specs.declared.RegisterRule.{RegisterRule}
 use Rattle.dwarf.specs.declared.CfaRule.{CfaRule}
 use Rattle.dwarf.specs.declared.Fde.{Fde}
-use Rattle.dwarf.specs.Dwarf.{twos, Row, rulesFrom, ruleCount, nextRow, rowsFrom, rowCount, rows, fdeOf, registers, member, once, rulesFit, cfaFits, rowFits, rowsFit, nameForm, ruleForms, named, ruleRules, cfaPlusRules, cfaRules, raRules, defaultRules, lineOf, rowLine, Seen, never, seen, differs, CfaSeen, noCfa, lastCfa, cfaDiffers, remember, seenAfter, ranRules, ranMoved, ranOf, ranRow, ranRows, nothingSeen, dwarfJudged, dwarfText, dwarfEntry}
+-- the body, for the sense
+use Rattle.dwarf.specs.Dwarf.{twos, Row, rows, fdeOf, Seen, never, seen, differs, CfaSeen, noCfa, lastCfa, cfaDiffers, dwarfJudged}
+-- the text, for the proofs
+use Rattle.dwarf.specs.Dwarf.{rulesFrom, ruleCount, nextRow, rowsFrom, rowCount, registers, member, once, rulesFit, cfaFits, rowFits, rowsFit, any, formBytes, namedBytes, ruleBytes, cfaBytes, raBytes, defaultBytes, startBytes, lineBytes, rowBytes, remember, seenAfter, ranRules, ranMoved, ranOf, ranRow, ranRows, nothingSeen, dwarfText, dwarfEntry}
 use Rattle.dwarf.specs.Index.{layout-rows, written}
 
 -- ---- the last earlier row
@@ -51,6 +55,42 @@ cfaBefore [] = noCfa
 cfaBefore (w ∷ []) = lastCfa (w .cfa)
 cfaBefore (w ∷ v ∷ ws) = cfaBefore (v ∷ ws)
 
+-- ---- rules: none where a name lacks. An empty name is none.
+
+-- the form of a register that has a name
+unfoldable pub nameForm : Bytes → List Form
+nameForm [] = []
+nameForm (c ∷ n) = register (c ∷ n) ∷ []
+
+-- same (0), offset (1), value offset (2), register (3), other
+unfoldable pub ruleForms : ℕ → RegisterRule → List Form
+ruleForms f x =
+    cond (eqb (x .kind) 0) (nameForm (cfiName f (x .register))) (cond (eqb (x .kind) 1) (atCfaPlus (twos (x .value)) ∷ [])
+    (cond (eqb (x .kind) 2) (cfaPlus (twos (x .value)) ∷ []) (cond (eqb (x .kind) 3) (nameForm (cfiName f (x .value))) [])))
+
+-- a rule, where both the name and the form are there
+unfoldable pub named : Bytes → List Form → List Rule
+named n [] = []
+named [] (f ∷ fs) = []
+named (c ∷ n) (f ∷ fs) = rule (c ∷ n) f ∷ []
+
+-- .ra for the return register
+unfoldable pub ruleRules : ℕ → ℕ → RegisterRule → List Rule
+ruleRules f ra x = named (cond (eqb (x .register) ra) (ascii ".ra") (cfiName f (x .register))) (ruleForms f x)
+
+-- the CFA is register + number
+unfoldable pub cfaPlusRules : Bytes → ℤ → List Rule
+cfaPlusRules [] z = []
+cfaPlusRules (c ∷ n) z = rule cfa (registerPlus (c ∷ n) z) ∷ []
+
+-- an expression has no rule
+unfoldable pub cfaRules : ℕ → CfaRule → List Rule
+cfaRules f x = cond (eqb (x .kind) 0) (cfaPlusRules (cfiName f (x .register)) (twos (x .offset))) []
+
+-- the default of families 3 to 9
+unfoldable pub raRules : ℕ → ℕ → List Rule
+raRules f ra = named (ascii ".ra") (cond (leb 3 f && leb f 9) (nameForm (cfiName f ra)) [])
+
 -- ---- lines
 
 -- the rules of a row that differ from what was said
@@ -62,6 +102,19 @@ newRules f ra said (x ∷ xs) = cond (differs (said (x .register)) (x .kind) (x 
 unfoldable pub raDiffers : ℕ → (ℕ → Seen) → List RegisterRule → Bool
 raDiffers ra said [] = false
 raDiffers ra said (x ∷ xs) = (eqb (x .register) ra && differs (said (x .register)) (x .kind) (x .value)) || raDiffers ra said xs
+
+-- the default: at the first start, unless the return register's rule differs, or `moved`
+unfoldable pub defaultRules : Fde → ℕ → Bool → List Rule
+defaultRules e start moved = cond (eqb start (e .start) && not moved) (raRules (e .family) (e .ra)) []
+
+-- INIT at the first start; addresses less the load address
+unfoldable pub lineOf : Fde → ℕ → List Rule → Line
+lineOf e start rs = cond (eqb start (e .start)) (init (start - e .load) (e .length) rs) (later (start - e .load) rs)
+
+-- without rules, but for a default, there is no line
+unfoldable pub rowLine : Fde → ℕ → List Rule → Bool → List Line
+rowLine e start [] moved = []
+rowLine e start (r ∷ rs) moved = lineOf e start ((r ∷ rs) ++ defaultRules e start moved) ∷ []
 
 -- the line of row w behind the rows ds
 unfoldable pub dwarfRow : Fde → List Row → Row → List Line
@@ -113,6 +166,96 @@ after-said c [] r = refl
 after-said c (x ∷ xs) r =
     after-said (remember c x) xs r ∙ ap (orElse (saidBy xs r)) (remember-says c x r) ∙ sym (orElse-assoc (saidBy xs r) (says x r) (c r))
 
+-- ---- what is written is the text of the rules
+
+-- these forms, under any name, give these bytes
+abbrev Writes : List Form → Bytes → Type 0
+Writes fs t = (n : Bytes) → rulesText (named n fs) ≡ namedBytes n t
+
+no-form : Writes [] []
+unfolding rulesText named namedBytes any
+no-form [] = refl
+no-form (c ∷ n) = refl
+
+one-form : (f : Form) → any (formText f) ≡ true → Writes (f ∷ []) (formText f)
+unfolding rulesText ruleText named namedBytes any
+one-form f h [] = refl
+one-form f h (c ∷ n) = rw h (append-nil (ruleText (rule (c ∷ n) f)))
+
+name-form : (n : Bytes) → Writes (nameForm n) n
+unfolding nameForm formText any
+name-form [] = no-form
+name-form (c ∷ n) = one-form (register (c ∷ n)) refl
+
+either-form : (t : Bool) (fs gs : List Form) (x y : Bytes) → Writes fs x → Writes gs y → Writes (cond t fs gs) (cond t x y)
+either-form true fs gs x y p q = p
+either-form false fs gs x y p q = q
+
+forms-text : (f : ℕ) (x : RegisterRule) → Writes (ruleForms f x) (formBytes f x)
+unfolding ruleForms formBytes formText any
+forms-text f x =
+    either-form (eqb (x .kind) 0) (nameForm (cfiName f (x .register))) _ _ _ (name-form (cfiName f (x .register)))
+    (either-form (eqb (x .kind) 1) (atCfaPlus (twos (x .value)) ∷ []) _ _ _ (one-form (atCfaPlus (twos (x .value))) refl)
+    (either-form (eqb (x .kind) 2) (cfaPlus (twos (x .value)) ∷ []) _ _ _ (one-form (cfaPlus (twos (x .value))) refl)
+    (either-form (eqb (x .kind) 3) (nameForm (cfiName f (x .value))) [] _ _ (name-form (cfiName f (x .value))) no-form)))
+
+rule-text : (f ra : ℕ) (x : RegisterRule) → rulesText (ruleRules f ra x) ≡ ruleBytes f ra x
+unfolding ruleRules ruleBytes
+rule-text f ra x = forms-text f x (cond (eqb (x .register) ra) (ascii ".ra") (cfiName f (x .register)))
+
+cfa-text : (f : ℕ) (x : CfaRule) → rulesText (cfaRules f x) ≡ cfaBytes f x
+unfolding cfaRules cfaBytes cfaPlusRules rulesText ruleText formText any
+cfa-text f x = go (eqb (x .kind) 0) (cfiName f (x .register)) (twos (x .offset))
+  where
+    go : (t : Bool) (n : Bytes) (z : ℤ) → rulesText (cond t (cfaPlusRules n z) []) ≡ cond (t && any n) (ascii " .cfa: " ++ n ++ (ascii " " ++ signed z ++ ascii " +")) []
+    go true [] z = refl
+    go true (c ∷ n) z = append-nil (ruleText (rule cfa (registerPlus (c ∷ n) z)))
+    go false n z = refl
+
+ra-text : (f ra : ℕ) → rulesText (raRules f ra) ≡ raBytes f ra
+unfolding raRules raBytes nameForm named rulesText ruleText formText any
+ra-text f ra = go (leb 3 f && leb f 9) (cfiName f ra)
+  where
+    go : (t : Bool) (n : Bytes) → rulesText (named (ascii ".ra") (cond t (nameForm n) [])) ≡ cond (t && any n) (ascii " .ra: " ++ n) []
+    go true [] = refl
+    go true (c ∷ n) = append-nil (ascii " .ra: " ++ (c ∷ n))
+    go false n = refl
+
+cond-text : (t : Bool) (rs : List Rule) (x : Bytes) → rulesText rs ≡ x → rulesText (cond t rs []) ≡ cond t x []
+unfolding rulesText
+cond-text true rs x e = e
+cond-text false rs x e = refl
+
+default-text : (e : Fde) (start : ℕ) (moved : Bool) → rulesText (defaultRules e start moved) ≡ defaultBytes e start moved
+unfolding defaultRules defaultBytes
+default-text e start moved = cond-text (eqb start (e .start) && not moved) _ _ (ra-text (e .family) (e .ra))
+
+-- ---- a row's line is dropped in both or in none
+
+line-text : (e : Fde) (start : ℕ) (rs : List Rule) → lineText false (lineOf e start rs) ≡ startBytes e start ++ rulesText rs ++ ascii "\n"
+unfolding lineText lineOf startBytes initText laterText
+line-text e start rs = go (eqb start (e .start))
+  where
+    go : (t : Bool) → lineText false (cond t (init (start - e .load) (e .length) rs) (later (start - e .load) rs))
+        ≡ cond t (ascii "STACK CFI INIT " ++ hex (start - e .load) ++ ascii " " ++ hex (e .length)) (ascii "STACK CFI " ++ hex (start - e .load)) ++ rulesText rs ++ ascii "\n"
+    go true = refl
+    go false = refl
+
+line-bytes : (e : Fde) (start : ℕ) (rs : List Rule) (moved : Bool) → lineText false (lineOf e start (rs ++ defaultRules e start moved)) ≡ lineBytes e start (rulesText rs) moved
+unfolding lineBytes
+line-bytes e start rs moved = rw (
+  line-text e start (rs ++ defaultRules e start moved),
+  rules-append rs (defaultRules e start moved),
+  default-text e start moved,
+  append-assoc (startBytes e start) (rulesText rs) (defaultBytes e start moved),
+)
+
+row-text : (e : Fde) (start : ℕ) (rs : List Rule) (moved : Bool) → render false (rowLine e start rs moved) ≡ rowBytes e start (rulesText rs) moved
+unfolding rowLine render rowBytes rulesText ruleText any
+row-text e start [] moved = refl
+row-text e start (rule n f ∷ rs) moved =
+    append-nil (lineText false (lineOf e start ((rule n f ∷ rs) ++ defaultRules e start moved))) ∙ line-bytes e start (rule n f ∷ rs) moved
+
 -- ---- a row that names no register twice: comparing as it goes is comparing with what was said before it
 
 apart : (q r : ℕ) → eqb q r ≡ false → eqb r q ≡ false
@@ -139,14 +282,15 @@ module _ (f ra : ℕ) (c : ℕ → Seen) (x : RegisterRule) where
   ra-free (y ∷ ys) h =
       rw (apart (y .register) (x .register) (or-l (eqb (y .register) (x .register)) _ h), ra-free ys (or-r (eqb (y .register) (x .register)) _ h))
 
-ran-new : (f ra : ℕ) (c : ℕ → Seen) (xs : List RegisterRule) → T (once (registers xs)) → ranRules f ra c xs ≡ newRules f ra c xs
-unfolding ranRules newRules once registers
+ran-new : (f ra : ℕ) (c : ℕ → Seen) (xs : List RegisterRule) → T (once (registers xs)) → rulesText (newRules f ra c xs) ≡ ranRules f ra c xs
+unfolding ranRules newRules once registers rulesText
 ran-new f ra c [] h = refl
-ran-new f ra c (x ∷ xs) h =
-    rw (
-      ran-new f ra (remember c x) xs (and-r (not (member (x .register) (registers xs))) _ h),
-      new-free f ra c x xs (is-false (member (x .register) (registers xs)) (and-l (not (member (x .register) (registers xs))) _ h)),
-    )
+ran-new f ra c (x ∷ xs) h = rw (
+  rules-append (cond (differs (c (x .register)) (x .kind) (x .value)) (ruleRules f ra x) []) (newRules f ra c xs),
+  cond-text (differs (c (x .register)) (x .kind) (x .value)) _ _ (rule-text f ra x),
+  ← ran-new f ra (remember c x) xs (and-r (not (member (x .register) (registers xs))) _ h),
+  new-free f ra c x xs (is-false (member (x .register) (registers xs)) (and-l (not (member (x .register) (registers xs))) _ h)),
+)
 
 ran-ra : (ra : ℕ) (c : ℕ → Seen) (xs : List RegisterRule) → T (once (registers xs)) → ranMoved ra c xs ≡ raDiffers ra c xs
 unfolding ranMoved raDiffers once registers
@@ -163,16 +307,25 @@ ran-ra ra c (x ∷ xs) h =
 abbrev rowOnce : Row → Bool
 rowOnce w = once (registers (w .rules))
 
-row-ran : (e : Fde) (ds : List Row) (w : Row) → T (rowOnce w) → ranRow e (cfaBefore ds) (lastSaid ds) w ≡ dwarfRow e ds w
+row-ran : (e : Fde) (ds : List Row) (w : Row) → T (rowOnce w) → render false (dwarfRow e ds w) ≡ ranRow e (cfaBefore ds) (lastSaid ds) w
 unfolding ranRow ranOf dwarfRow
-row-ran e ds w h = rw (ran-new (e .family) (e .ra) (lastSaid ds) (w .rules) h, ran-ra (e .ra) (lastSaid ds) (w .rules) h)
+row-ran e ds w h =
+    let cs : List Rule = cond (cfaDiffers (cfaBefore ds) (w .cfa)) (cfaRules (e .family) (w .cfa)) [] in
+    let ns : List Rule = newRules (e .family) (e .ra) (lastSaid ds) (w .rules) in
+    rw (
+      row-text e (w .start) (cs ++ ns) (raDiffers (e .ra) (lastSaid ds) (w .rules)),
+      rules-append cs ns,
+      cond-text (cfaDiffers (cfaBefore ds) (w .cfa)) _ _ (cfa-text (e .family) (w .cfa)),
+      ran-new (e .family) (e .ra) (lastSaid ds) (w .rules) h,
+      ran-ra (e .ra) (lastSaid ds) (w .rules) h,
+    )
 
 rows-ran : (e : Fde) (ds : List Row) (s : CfaSeen) (c : ℕ → Seen) (ws : List Row) → s ≡ cfaBefore ds → c ≡ lastSaid ds → T (all rowOnce ws)
-    → ranRows e s c ws ≡ dwarfRows e ds ws
-unfolding ranRows dwarfRows
+    → render false (dwarfRows e ds ws) ≡ ranRows e s c ws
+unfolding ranRows dwarfRows render
 rows-ran e ds s c [] i j h = refl
 rows-ran e ds s c (w ∷ ws) i j h =
-    rw (i, j) (ap₂ (λ (ls ms : List Line). ls ++ ms) (row-ran e ds w (and-l (rowOnce w) _ h))
+    rw (i, j) (render-append false (dwarfRow e ds w) _ ∙ ap₂ (λ (s t : Bytes). s ++ t) (row-ran e ds w (and-l (rowOnce w) _ h))
     (rows-ran e (ds ++ (w ∷ [])) (lastCfa (w .cfa)) (seenAfter (lastSaid ds) (w .rules)) ws (sym (cfa-snoc ds w))
     (fun-ext λ r. after-said (lastSaid ds) (w .rules) r ∙ sym (said-snoc ds w r)) (and-r (rowOnce w) _ h)))
 
@@ -187,7 +340,7 @@ rows-once ws (suc m) a h =
 -- the text as it is run is the rendering of the lines
 pub dwarf-text : (ws : List ℕ) → T (rowsFit ws (rowCount ws) 7) → dwarfText ws ≡ render false (dwarfRows (fdeOf ws) [] (rows ws))
 unfolding dwarfText rows nothingSeen lastSaid cfaBefore
-dwarf-text ws h = ap (render false) (rows-ran (fdeOf ws) [] noCfa nothingSeen (rows ws) refl refl (rows-once ws (rowCount ws) 7 h))
+dwarf-text ws h = sym (rows-ran (fdeOf ws) [] noCfa nothingSeen (rows ws) refl refl (rows-once ws (rowCount ws) 7 h))
 
 pub dwarf-entry-text : (last : Last) (ws : List ℕ) → dwarfEntry last ws .text ≡ render false (dwarfLines ws)
 unfolding dwarfEntry dwarfLines

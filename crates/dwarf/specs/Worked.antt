@@ -6,10 +6,10 @@ use mathlib.Core.List.{List, [], _∷_}
 use lib.Dec.{T, eqb}
 use Rattle.text.specs.Text.{ascii}
 use Rattle.text.specs.Tests.{all, eqw}
-use Rattle.lines.specs.Lines.{Bytes, render, lineOk}
+use Rattle.lines.specs.Lines.{Bytes, render, lineOk, Lines·open}
 use Rattle.entry.specs.Entry.{noLast}
 use Rattle.dwarf.specs.Dwarf.{dwarfEntry, Dwarf·open}
-use Rattle.dwarf.specs.Sense.{dwarfLines, dwarfRows, dwarfRow, newRules, raDiffers, lastSaid, saidBy, says, cfaBefore}
+use Rattle.dwarf.specs.Sense.{dwarfLines, dwarfRows, dwarfRow, rowLine, lineOf, defaultRules, newRules, raDiffers, raRules, cfaRules, cfaPlusRules, ruleRules, named, ruleForms, nameForm, lastSaid, saidBy, says, cfaBefore}
 
 -- a body's words, and what its entry gives
 pub record Case : Type 0 where
@@ -90,5 +90,5 @@ passes k =
     && (eqw (render false (dwarfLines (k .words))) (k .text) && all lineOk (dwarfLines (k .words)))
 
 pub worked : T (all passes cases)
-unfolding cases Dwarf·open dwarfLines dwarfRows dwarfRow newRules raDiffers lastSaid saidBy says cfaBefore
+unfolding cases Dwarf·open Lines·open dwarfLines dwarfRows dwarfRow rowLine lineOf defaultRules newRules raDiffers raRules cfaRules cfaPlusRules ruleRules named ruleForms nameForm lastSaid saidBy says cfaBefore
 worked = tt

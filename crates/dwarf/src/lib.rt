@@ -34,17 +34,16 @@ use lines::put_rule;
 use names::has_cfi_name;
 use text::put_byte;
 ghost use mathlib.Core.Path.{_≡_};
-ghost use mathlib.Core.Bool.{cond, true, false, _||_};
-ghost use mathlib.Core.List.{[], _++_};
-ghost use Prim.Native.Nat.{_+_, _-_, _*_, _^_, _<_, _≤_};
+ghost use mathlib.Core.Bool.{cond, _||_};
+ghost use mathlib.Core.List.{[]};
+ghost use Prim.Native.Nat.{_+_, _-_, _^_, _<_, _≤_};
 ghost use lib.ListN.{getD, length, take};
 ghost use lib.Dec.{T, eqb, leb, ltb};
 ghost use Rattle.text.specs.Text.{Put};
 ghost use Rattle.names.specs.Names.{cfiName};
 ghost use Rattle.entry.specs.Entry.{Processed};
-ghost use Rattle.lines.specs.Lines.{initText, laterText, rulesText, lineText, render};
-ghost use Rattle.dwarf.specs.Dwarf.{wide, twos, usedValue, ruleAt, rulesFrom, cfaAt, rows, firstStart, lastEnd, fdeOf, registers, member, once, ruleFits, rulesFit, rowFits, rowsFit, headFits, dwarfLayout, dwarfSkipped, anyBelow, dwarfReach, dwarfJudged, nameForm, ruleForms, ruleRules, cfaRules, raRules, defaultRules, lineOf, ranRow, differs, cfaDiffers, ranRules, dwarfText, dwarfEntry, noCfa, nothingSeen, ranRows, ranOf, rulesOf, rowAt, distinct};
-ghost use Rattle.dwarf.specs.Cache.{firstIn, lookup, behind, cfaOf, fresh, formed, formatted, any, Scanned, After, Known};
+ghost use Rattle.dwarf.specs.Dwarf.{wide, twos, usedValue, ruleAt, rulesFrom, cfaAt, rows, firstStart, lastEnd, fdeOf, registers, member, once, ruleFits, rulesFit, rowFits, rowsFit, headFits, dwarfLayout, dwarfSkipped, anyBelow, dwarfReach, dwarfJudged, any, formBytes, ruleBytes, cfaBytes, raBytes, defaultBytes, startBytes, lineBytes, ranRow, cfaDiffers, ranRules, dwarfText, dwarfEntry, noCfa, nothingSeen, ranRows, ranOf, rulesOf, rowAt, distinct};
+ghost use Rattle.dwarf.specs.Cache.{firstIn, lookup, behind, cfaOf, fresh, Forms, formatted, Scanned, After, Known};
 
 // The registers that rules may name in a body.
 const MOST_REGISTERS: usize = 64;
@@ -275,7 +274,7 @@ fn has_name(family: u32, register: u32) -> bool
 }
 
 fn register_form(family: u32, register: u32) -> Formed
-    ensures { λ r. ⌜ formed r ≡ nameForm (cfiName family register) ⌝ }
+    ensures { λ r. ⌜ Forms (cfiName family register) r ⌝ }
 {
     let some = has_name(family, register);
     let reg = Reg::Cfi(family, register);
@@ -284,7 +283,7 @@ fn register_form(family: u32, register: u32) -> Formed
 }
 
 fn no_form() -> Formed
-    ensures { λ r. ⌜ formed r ≡ [] ⌝ }
+    ensures { λ r. ⌜ Forms [] r ⌝ }
 {
     let form = Form::Register(Reg::Sp);
     Formed { some: false, form }
@@ -292,7 +291,7 @@ fn no_form() -> Formed
 
 // The value is a register; the tables have none past 65,535.
 fn value_form(family: u32, value: u64) -> Formed
-    ensures { λ r. ⌜ formed r ≡ nameForm (cfiName family value) ⌝ }
+    ensures { λ r. ⌜ Forms (cfiName family value) r ⌝ }
 {
     if value < REGISTER_VALUES {
         return register_form(family, value as u32);
@@ -301,7 +300,7 @@ fn value_form(family: u32, value: u64) -> Formed
 }
 
 fn rule_form(family: u32, rule: RegisterRule) -> Formed
-    ensures { λ r. ⌜ formed r ≡ ruleForms family rule ⌝ }
+    ensures { λ r. ⌜ Forms (formBytes family rule) r ⌝ }
 {
     if rule.kind == 0 {
         return register_form(family, rule.register);
@@ -322,7 +321,7 @@ fn rule_form(family: u32, rule: RegisterRule) -> Formed
 
 // The return register is called .ra, any other by its table name.
 fn format_rule(family: u32, ra: u32, rule: RegisterRule) -> Formatted
-    ensures { λ r. ⌜ formatted r ≡ ruleRules family ra rule ⌝ }
+    ensures { λ r. ⌜ formatted r ≡ ruleBytes family ra rule ⌝ }
 {
     let f = rule_form(family, rule);
     let form = f.form;
@@ -339,7 +338,7 @@ fn format_rule(family: u32, ra: u32, rule: RegisterRule) -> Formatted
 
 // " .cfa: R N +"; an expression writes nothing.
 fn format_cfa(family: u32, cfa: CfaRule) -> Formatted
-    ensures { λ r. ⌜ formatted r ≡ cfaRules family cfa ⌝ }
+    ensures { λ r. ⌜ formatted r ≡ cfaBytes family cfa ⌝ }
 {
     let named = has_name(family, cfa.register);
     let some = both(cfa.kind == 0, named);
@@ -352,7 +351,7 @@ fn format_cfa(family: u32, cfa: CfaRule) -> Formatted
 
 // Where the return address is in a register, families 3 to 9: " .ra: Q".
 fn format_default(family: u32, ra: u32) -> Formatted
-    ensures { λ r. ⌜ formatted r ≡ raRules family ra ⌝ }
+    ensures { λ r. ⌜ formatted r ≡ raBytes family ra ⌝ }
 {
     let kept = both(3 <= family, family <= 9);
     let some = both(kept, has_name(family, ra));
@@ -363,7 +362,7 @@ fn format_default(family: u32, ra: u32) -> Formatted
 }
 
 fn put_formatted(out: &mut [u8], at: usize, f: Formatted) -> usize
-    ensures { λ r. ⌜ Put (now (out .entry)) at (rulesText (formatted f)) (now (out .exit)) r ⌝ }
+    ensures { λ r. ⌜ Put (now (out .entry)) at (formatted f) (now (out .exit)) r ⌝ }
 {
     if f.some {
         let rule = f.rule;
@@ -374,7 +373,7 @@ fn put_formatted(out: &mut [u8], at: usize, f: Formatted) -> usize
 
 // The CFA's rule, where it differs from the one last seen.
 fn write_cfa_rule(out: &mut [u8], at: usize, family: u32, cfa: CfaRule, changed: bool) -> usize
-    ensures { λ r. ⌜ Put (now (out .entry)) at (rulesText (cond changed (cfaRules family cfa) [])) (now (out .exit)) r ⌝ }
+    ensures { λ r. ⌜ Put (now (out .entry)) at (cond changed (cfaBytes family cfa) []) (now (out .exit)) r ⌝ }
 {
     if changed {
         return put_formatted(out, at, format_cfa(family, cfa));
@@ -391,7 +390,7 @@ fn write_register_rule(
     rule: RegisterRule,
     changed: bool,
 ) -> usize
-    ensures { λ r. ⌜ Put (now (out .entry)) at (rulesText (cond changed (ruleRules family ra rule) [])) (now (out .exit)) r ⌝ }
+    ensures { λ r. ⌜ Put (now (out .entry)) at (cond changed (ruleBytes family ra rule) []) (now (out .exit)) r ⌝ }
 {
     if changed {
         return put_formatted(out, at, format_rule(family, ra, rule));
@@ -403,7 +402,7 @@ fn write_register_rule(
 
 // Whether the CFA writes anything.
 fn cfa_written(family: u32, cfa: CfaRule, changed: bool) -> bool
-    ensures { λ r. ⌜ r ≡ any (cond changed (cfaRules family cfa) []) ⌝ }
+    ensures { λ r. ⌜ r ≡ any (cond changed (cfaBytes family cfa) []) ⌝ }
 {
     if changed {
         let f = format_cfa(family, cfa);
@@ -413,7 +412,7 @@ fn cfa_written(family: u32, cfa: CfaRule, changed: bool) -> bool
 }
 
 fn rule_written(family: u32, ra: u32, rule: RegisterRule, changed: bool) -> bool
-    ensures { λ r. ⌜ r ≡ any (cond changed (ruleRules family ra rule) []) ⌝ }
+    ensures { λ r. ⌜ r ≡ any (cond changed (ruleBytes family ra rule) []) ⌝ }
 {
     if changed {
         let f = format_rule(family, ra, rule);
@@ -480,7 +479,7 @@ fn put_rules(
     rules: RuleCache,
 ) -> usize
     requires { ⌜ (from < 2 ^ 20) × (n ≤ 64) × (rules .count + fresh (lookup rules) (rulesFrom (now body) n from) ≤ 64) ⌝ }
-    ensures { λ r. ⌜ Put (now (out .entry)) at (rulesText (ranRules family ra (lookup rules) (rulesFrom (now (body .entry)) n from))) (now (out .exit)) r ⌝ }
+    ensures { λ r. ⌜ Put (now (out .entry)) at (ranRules family ra (lookup rules) (rulesFrom (now (body .entry)) n from)) (now (out .exit)) r ⌝ }
 {
     let mut seen = rules;
     let mut p = at;
@@ -505,7 +504,7 @@ fn put_rules(
 
 // The beginning of a row's line: INIT at the first start.
 fn put_start(out: &mut [u8], at: usize, fde: Fde, start: u64) -> usize
-    ensures { λ r. ⌜ Put (now (out .entry)) at (cond (eqb start (fde .start)) (initText (start - fde .load) (fde .length)) (laterText false (start - fde .load))) (now (out .exit)) r ⌝ }
+    ensures { λ r. ⌜ Put (now (out .entry)) at (startBytes fde start) (now (out .exit)) r ⌝ }
 {
     let address = less(start, fde.load);
     if start == fde.start {
@@ -515,7 +514,7 @@ fn put_start(out: &mut [u8], at: usize, fde: Fde, start: u64) -> usize
 }
 
 fn put_default(out: &mut [u8], at: usize, fde: Fde, start: u64, moved: bool) -> usize
-    ensures { λ r. ⌜ Put (now (out .entry)) at (rulesText (defaultRules fde start moved)) (now (out .exit)) r ⌝ }
+    ensures { λ r. ⌜ Put (now (out .entry)) at (defaultBytes fde start moved) (now (out .exit)) r ⌝ }
 {
     if both(start == fde.start, !moved) {
         return put_formatted(out, at, format_default(fde.family, fde.ra));
@@ -535,7 +534,7 @@ fn put_line(
     moved: bool,
 ) -> usize
     requires { ⌜ (a < 2 ^ 19) × (getD (now body) (a + 8) 0 ≤ 64) × (state .rules .count + fresh (lookup (state .rules)) (rowAt (now body) a .rules) ≤ 64) ⌝ }
-    ensures { λ r. ⌜ Put (now (out .entry)) at (cond written (lineText false (lineOf fde (wide (now (body .entry)) a) (ranOf fde (cfaOf state) (lookup (state .rules)) (rowAt (now (body .entry)) a) ++ defaultRules fde (wide (now (body .entry)) a) moved))) []) (now (out .exit)) r ⌝ }
+    ensures { λ r. ⌜ Put (now (out .entry)) at (cond written (lineBytes fde (wide (now (body .entry)) a) (ranOf fde (cfaOf state) (lookup (state .rules)) (rowAt (now (body .entry)) a)) moved) []) (now (out .exit)) r ⌝ }
 {
     if !written {
         return at;
@@ -560,7 +559,7 @@ pub struct Placed {
 // One row: its line, unless nothing is written, and what is last seen after it.
 fn put_row(out: &mut [u8], at: usize, body: &[u32], a: usize, fde: Fde, state: RowState) -> Placed
     requires { ⌜ (a < 2 ^ 19) × (getD (now body) (a + 8) 0 ≤ 64) × (state .rules .count + fresh (lookup (state .rules)) (rowAt (now body) a .rules) ≤ 64) ⌝ }
-    ensures writes { λ r. ⌜ Put (now (out .entry)) at (render false (ranRow fde (cfaOf state) (lookup (state .rules)) (rowAt (now (body .entry)) a))) (now (out .exit)) (r .at) ⌝ }
+    ensures writes { λ r. ⌜ Put (now (out .entry)) at (ranRow fde (cfaOf state) (lookup (state .rules)) (rowAt (now (body .entry)) a)) (now (out .exit)) (r .at) ⌝ }
     ensures goes { λ r. ⌜ After state (rowAt (now (body .entry)) a) (r .state) ⌝ }
 {
     let n = word(body, a + 8) as usize;
@@ -597,7 +596,7 @@ fn start_state() -> RowState
 
 fn put_rows(out: &mut [u8], at: usize, body: &[u32], fde: Fde) -> usize
     requires { ⌜ T (dwarfLayout (now body)) ⌝ }
-    ensures { λ r. ⌜ Put (now (out .entry)) at (render false (ranRows fde noCfa nothingSeen (rows (now (body .entry))))) (now (out .exit)) r ⌝ }
+    ensures { λ r. ⌜ Put (now (out .entry)) at (ranRows fde noCfa nothingSeen (rows (now (body .entry)))) (now (out .exit)) r ⌝ }
 {
     let mut p = at;
     let mut state = start_state();

@@ -1,6 +1,5 @@
 -- `cfa_written`: something is written where a rule is there.
-use Rattle.dwarf.specs.Dwarf.{cfaRules}
-use Rattle.dwarf.specs.Cache.{any}
+use Rattle.dwarf.specs.Dwarf.{any, cfaBytes}
 use Rattle.dwarf.proofs.Forms.{some-any}
 use borrow.Author.Needs.{needs}
 use Rattle.dwarf.proofs.cfa_written.Statement.{statement}
@@ -10,7 +9,7 @@ format-cfa-requires : tie.Need-format-cfa-requires
 format-cfa-requires c κs = search needs
 
 returns : tie.Need-returns
-returns c = rw (c .before .if1 .taken) (some-any (c .format-cfa .result) (cfaRules (c .before .before .args .family) (c .before .before .args .cfa)) (c .format-cfa .ensures))
+returns c = rw (c .before .if1 .taken) (some-any (c .format-cfa .result) (cfaBytes (c .before .before .args .family) (c .before .before .args .cfa)) (c .format-cfa .ensures))
 
 returns-2 : tie.Need-returns-2
 unfolding any

@@ -1,18 +1,19 @@
 -- `format_cfa`: written for kind 0 with a name.
 use mathlib.Core.Path.{ap, _∙_}
 use mathlib.Core.Bool.{cond, _&&_}
-use mathlib.Core.List.{[], _∷_}
+use mathlib.Core.List.{[], _++_}
 use lib.IntN.{ℤ}
 use lib.Dec.{eqb}
 use mir.Syntax.{w64}
 use mir.Val.{SFits}
 use mir.Facts.{toZ-ofZ}
+use Rattle.text.specs.Text.{ascii}
+use Rattle.text.specs.Digits.{signed}
 use Rattle.names.specs.Names.{cfiName}
-use Rattle.lines.specs.Lines.{rule, cfa, registerPlus}
+use Rattle.lines.specs.Lines.{formText, ruleText}
 use Rattle.lines.specs.Rules.{ruleOf, ruleName, regName, formOf}
-use Rattle.dwarf.specs.Dwarf.{cfaRules, twos}
+use Rattle.dwarf.specs.Dwarf.{any, cfaBytes}
 use Rattle.dwarf.specs.Cache.{formatted}
-use Rattle.dwarf.proofs.Forms.{cfa-named}
 use borrow.Author.Needs.{needs}
 use Rattle.dwarf.proofs.format_cfa.Statement.{statement}
 use Rattle.dwarf.proofs.format_cfa.Tie as tie
@@ -27,10 +28,11 @@ signed-of-requires : tie.Need-signed-of-requires
 signed-of-requires c κs = search needs
 
 returns : tie.Need-returns
-unfolding cfaRules formatted ruleOf ruleName regName formOf
+unfolding cfaBytes formatted ruleText formText ruleOf ruleName regName formOf
 returns c =
+    let a = c .before .before .before .before .args in
     let f : SFits w64 (c .signed-of .result) = search needs in
-    rw (c .before .both .ensures) (ap (λ (z : ℤ). cond (eqb (c .before .before .before .before .args .cfa .kind) 0 && c .before .before .before .has-name .result) (rule cfa (registerPlus (cfiName (c .before .before .before .before .args .family) (c .before .before .before .before .args .cfa .register)) z) ∷ []) []) (toZ-ofZ f ∙ c .signed-of .ensures) ∙ cfa-named (eqb (c .before .before .before .before .args .cfa .kind) 0) (c .before .before .before .has-name .result) (cfiName (c .before .before .before .before .args .family) (c .before .before .before .before .args .cfa .register)) (twos (c .before .before .before .before .args .cfa .offset)) (c .before .before .before .has-name .ensures))
+    rw (c .before .both .ensures, c .before .before .before .has-name .ensures) (ap (λ (z : ℤ). cond (eqb (a .cfa .kind) 0 && any (cfiName (a .family) (a .cfa .register))) (ascii " .cfa: " ++ cfiName (a .family) (a .cfa .register) ++ (ascii " " ++ signed z ++ ascii " +")) []) (toZ-ofZ f ∙ c .signed-of .ensures))
 
 pub format-cfa-spec : {M : Type 1} → statement M
 format-cfa-spec = tie.close (tie.spec has-name-requires both-requires signed-of-requires returns)

@@ -1,11 +1,8 @@
 -- `format_default`: written for families 3 to 9 with a name.
-use mathlib.Core.Bool.{_&&_}
-use lib.Dec.{leb}
-use Rattle.names.specs.Names.{cfiName}
+use Rattle.lines.specs.Lines.{formText, ruleText}
 use Rattle.lines.specs.Rules.{ruleOf, ruleName, regName, formOf}
-use Rattle.dwarf.specs.Dwarf.{raRules}
+use Rattle.dwarf.specs.Dwarf.{raBytes}
 use Rattle.dwarf.specs.Cache.{formatted}
-use Rattle.dwarf.proofs.Forms.{default-named}
 use borrow.Author.Needs.{needs}
 use Rattle.dwarf.proofs.format_default.Statement.{statement}
 use Rattle.dwarf.proofs.format_default.Tie as tie
@@ -20,8 +17,8 @@ both-requires-2 : tie.Need-both-requires-2
 both-requires-2 c κs = search needs
 
 returns : tie.Need-returns
-unfolding raRules formatted ruleOf ruleName regName formOf
-returns c = rw (c .both2 .ensures, c .before .before .both .ensures) (default-named (leb 3 (c .before .before .before .args .family) && leb (c .before .before .before .args .family) 9) (c .before .has-name .result) (cfiName (c .before .before .before .args .family) (c .before .before .before .args .ra)) (c .before .has-name .ensures))
+unfolding raBytes formatted ruleText formText ruleOf ruleName regName formOf
+returns c = rw (c .both2 .ensures, c .before .before .both .ensures, c .before .has-name .ensures)
 
 pub format-default-spec : {M : Type 1} → statement M
 format-default-spec = tie.close (tie.spec both-requires has-name-requires both-requires-2 returns)

@@ -1,9 +1,9 @@
 -- `format_rule`: the form under .ra or under the table name.
 use borrow.Author.Tests.{eq-eqb, ne-eqb}
 use Rattle.names.specs.Names.{cfiName}
-use Rattle.lines.specs.Lines.{rule}
+use Rattle.lines.specs.Lines.{formText, ruleText}
 use Rattle.lines.specs.Rules.{ruleOf, ruleName, regName, formOf}
-use Rattle.dwarf.specs.Dwarf.{ruleRules, ruleForms}
+use Rattle.dwarf.specs.Dwarf.{formBytes, ruleBytes}
 use Rattle.dwarf.specs.Cache.{formed, formatted}
 use Rattle.dwarf.proofs.Forms.{named-ra, named-of}
 use borrow.Author.Needs.{needs}
@@ -14,8 +14,8 @@ rule-form-requires : tie.Need-rule-form-requires
 rule-form-requires c κs = search needs
 
 returns : tie.Need-returns
-unfolding ruleRules formatted ruleOf ruleName formed
-returns c = rw (eq-eqb (c .before .before .before .args .rule .register) (c .before .before .before .args .ra) (c .if1 .taken)) (named-ra (c .before .before .rule-form .result .some) (formOf (c .before .before .rule-form .result .form)) (ruleForms (c .before .before .before .args .family) (c .before .before .before .args .rule)) (c .before .before .rule-form .ensures))
+unfolding ruleBytes formatted ruleText ruleOf ruleName formed
+returns c = rw (eq-eqb (c .before .before .before .args .rule .register) (c .before .before .before .args .ra) (c .if1 .taken)) (named-ra (c .before .before .rule-form .result .some) (formText (formOf (c .before .before .rule-form .result .form))) (formBytes (c .before .before .before .args .family) (c .before .before .before .args .rule)) (c .before .before .rule-form .ensures .some-is) (c .before .before .rule-form .ensures .bytes-are))
 
 has-name-requires : tie.Need-has-name-requires
 has-name-requires c κs = search needs
@@ -24,8 +24,8 @@ both-requires : tie.Need-both-requires
 both-requires c κs = search needs
 
 returns-2 : tie.Need-returns-2
-unfolding ruleRules formatted ruleOf ruleName regName formed
-returns-2 c = rw (ne-eqb (c .before .before .before .before .before .args .rule .register) (c .before .before .before .before .before .args .ra) (c .before .before .if1 .left), c .both .ensures) (named-of (c .before .before .before .before .rule-form .result .some) (c .before .has-name .result) (cfiName (c .before .before .before .before .before .args .family) (c .before .before .before .before .before .args .rule .register)) (formOf (c .before .before .before .before .rule-form .result .form)) (ruleForms (c .before .before .before .before .before .args .family) (c .before .before .before .before .before .args .rule)) (c .before .before .before .before .rule-form .ensures) (c .before .has-name .ensures))
+unfolding ruleBytes formatted ruleText ruleOf ruleName regName formed
+returns-2 c = rw (ne-eqb (c .before .before .before .before .before .args .rule .register) (c .before .before .before .before .before .args .ra) (c .before .before .if1 .left), c .both .ensures) (named-of (c .before .before .before .before .rule-form .result .some) (c .before .has-name .result) (cfiName (c .before .before .before .before .before .args .family) (c .before .before .before .before .before .args .rule .register)) (formText (formOf (c .before .before .before .before .rule-form .result .form))) (formBytes (c .before .before .before .before .before .args .family) (c .before .before .before .before .before .args .rule)) (c .before .before .before .before .rule-form .ensures .some-is) (c .before .before .before .before .rule-form .ensures .bytes-are) (c .before .has-name .ensures))
 
 pub format-rule-spec : {M : Type 1} → statement M
 format-rule-spec =

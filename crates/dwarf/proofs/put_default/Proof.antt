@@ -1,6 +1,6 @@
 -- `put_default`: put where the test of the definition holds.
 use mathlib.Core.Path.{sym, _∙_}
-use Rattle.dwarf.specs.Dwarf.{defaultRules}
+use Rattle.dwarf.specs.Dwarf.{defaultBytes}
 use Rattle.dwarf.proofs.Forms.{put-taken, put-left}
 use native.Mathlib.Omega.{arith}
 use borrow.Author.Needs.{needs}
@@ -20,11 +20,11 @@ same-length : tie.Need-same-length
 same-length c = search needs
 
 returns : tie.Need-returns
-unfolding defaultRules
+unfolding defaultBytes
 returns c = put-taken _ _ _ (sym (c .before .before .before .before .before .before .both .ensures) ∙ c .before .before .before .before .before .if1 .taken) (c .before .before .before .format-default .ensures) (c .before .before .put-formatted .ensures)
 
 returns-2 : tie.Need-returns-2
-unfolding defaultRules
+unfolding defaultBytes
 returns-2 c = put-left _ _ (sym (c .before .both .ensures) ∙ c .if1 .left) (omega arith) (omega arith)
 
 pub put-default-spec : {M : Type 1} → statement M

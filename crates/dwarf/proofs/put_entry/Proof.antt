@@ -1,8 +1,6 @@
 -- `put_entry`: the rows under what `fde_of` reads.
 use mathlib.Core.Path.{ap}
-use mathlib.Core.Bool.{false}
 use Rattle.text.specs.Text.Laws.{put-as, put-length}
-use Rattle.lines.specs.Lines.{render}
 use Rattle.dwarf.specs.declared.Fde.{Fde}
 use Rattle.dwarf.specs.Dwarf.{rows, ranRows, noCfa, nothingSeen, dwarfText}
 use borrow.Author.Needs.{needs}
@@ -17,7 +15,7 @@ put-rows-requires c κs = search needs
 
 returns : tie.Need-returns
 unfolding dwarfText
-returns c = put-as (c .before .before .put-rows .ensures) (ap (λ (e : Fde). render false (ranRows e noCfa nothingSeen (rows (c .before .before .before .before .before .before .before .args .body .now)))) (c .before .before .before .before .fde-of .ensures))
+returns c = put-as (c .before .before .put-rows .ensures) (ap (λ (e : Fde). ranRows e noCfa nothingSeen (rows (c .before .before .before .before .before .before .before .args .body .now))) (c .before .before .before .before .fde-of .ensures))
 
 same-length : tie.Need-same-length
 same-length c = put-length (returns c)

@@ -4,8 +4,7 @@ use mathlib.Core.Bool.{Bool, cond}
 use mathlib.Core.List.{[]}
 use lib.ListN.{length, length-set}
 use Rattle.text.specs.Text.Laws.{left-all, put-as, put-length}
-use Rattle.lines.specs.Lines.{rulesText}
-use Rattle.dwarf.specs.Dwarf.{ruleRules}
+use Rattle.dwarf.specs.Dwarf.{ruleBytes}
 use Rattle.dwarf.proofs.Store.{stored-counts, stored-sees, change-is}
 use Rattle.dwarf.proofs.Loops.{PutLeft, rules-all, put-turn, put-done, rules-room, rules-place}
 use borrow.Author.Needs.{needs}
@@ -93,7 +92,7 @@ loop-again c =
     let changed = change-is s (x .register) (x .kind) (x .value) lr lk lv room (c .before .before .before .before .before .before .before .before .before .before .before .place .ensures) (c .before .before .before .before .before .before .both .ensures) (c .before .before .before .before .before .both2 .ensures) in
     let a = c .before .before .before .before .before .before .before .before .before .before .before .before .before .before .before .before .before .before .before .before .args in
     let next = put-turn (c .before .before .before .before .before .before .before .before .before .before .before .before .before .before .before .before .before .loop .inv .0) (search needs) (c .before .before .before .before .before .before .before .before .before .before .before .before .before .before .before .rule-at .ensures) (c .before .before .before .before .before .before .before .before .before .before .before .before .before .before .before .before .before .before .before .before .pre .2) counts sees
-    (put-as (c .before .before .write-register-rule .ensures) (ap (λ (t : Bool). rulesText (cond t (ruleRules (a .family) (a .ra) x) [])) changed)) in
+    (put-as (c .before .before .write-register-rule .ensures) (ap (λ (t : Bool). cond t (ruleBytes (a .family) (a .ra) x) []) changed)) in
     (next, length-set (s .kind) _ _ ∙ lk, length-set (s .value) _ _ ∙ lv)
 
 returns : tie.Need-returns Inv-loop μ-loop

@@ -1,6 +1,5 @@
 -- `rule_written`: something is written where a rule is there.
-use Rattle.dwarf.specs.Dwarf.{ruleRules}
-use Rattle.dwarf.specs.Cache.{any}
+use Rattle.dwarf.specs.Dwarf.{any, ruleBytes}
 use Rattle.dwarf.proofs.Forms.{some-any}
 use borrow.Author.Needs.{needs}
 use Rattle.dwarf.proofs.rule_written.Statement.{statement}
@@ -10,7 +9,7 @@ format-rule-requires : tie.Need-format-rule-requires
 format-rule-requires c κs = search needs
 
 returns : tie.Need-returns
-returns c = rw (c .before .if1 .taken) (some-any (c .format-rule .result) (ruleRules (c .before .before .args .family) (c .before .before .args .ra) (c .before .before .args .rule)) (c .format-rule .ensures))
+returns c = rw (c .before .if1 .taken) (some-any (c .format-rule .result) (ruleBytes (c .before .before .args .family) (c .before .before .args .ra) (c .before .before .args .rule)) (c .format-rule .ensures))
 
 returns-2 : tie.Need-returns-2
 unfolding any

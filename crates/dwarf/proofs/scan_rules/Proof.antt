@@ -4,8 +4,7 @@ use mathlib.Core.Bool.{Bool, not, cond, _&&_, _||_}
 use mathlib.Core.List.{[]}
 use lib.ListN.{length, length-set}
 use lib.Dec.{eqb}
-use Rattle.dwarf.specs.Dwarf.{ruleRules}
-use Rattle.dwarf.specs.Cache.{any}
+use Rattle.dwarf.specs.Dwarf.{any, ruleBytes}
 use Rattle.dwarf.proofs.Store.{stored-counts, stored-sees, change-is}
 use Rattle.dwarf.proofs.Loops.{ScanLeft, scan-all, scan-turn, scan-done, rules-room, rules-place}
 use borrow.Author.Needs.{needs}
@@ -102,7 +101,7 @@ loop-again c =
     let changed = change-is s (x .register) (x .kind) (x .value) lr lk lv room (c .before .before .before .before .before .before .before .before .before .before .before .before .place .ensures) (c .before .before .before .before .before .before .before .both .ensures) (c .before .before .before .before .before .before .both2 .ensures) in
     let a = c .before .before .before .before .before .before .before .before .before .before .before .before .before .before .before .before .before .before .before .before .args in
     let next = scan-turn (c .before .before .before .before .before .before .before .before .before .before .before .before .before .before .before .before .before .before .loop .inv .0) (search needs) (c .before .before .before .before .before .before .before .before .before .before .before .before .before .before .before .before .rule-at .ensures) (c .before .before .before .before .before .before .before .before .before .before .before .before .before .before .before .before .before .before .before .before .pre .2) counts sees
-    (c .before .before .before .either .ensures ∙ ap (λ (t : Bool). c .before .before .before .before .before .before .before .before .before .before .before .before .before .before .before .before .before .before .loop .written || t) (_∙_ {b = any (cond (not (c .before .before .before .before .before .before .both2 .result)) (ruleRules (a .family) (a .ra) x) [])} (c .before .before .before .before .rule-written .ensures) (ap (λ (t : Bool). any (cond t (ruleRules (a .family) (a .ra) x) [])) changed)))
+    (c .before .before .before .either .ensures ∙ ap (λ (t : Bool). c .before .before .before .before .before .before .before .before .before .before .before .before .before .before .before .before .before .before .loop .written || t) (_∙_ {b = any (cond (not (c .before .before .before .before .before .before .both2 .result)) (ruleBytes (a .family) (a .ra) x) [])} (c .before .before .before .before .rule-written .ensures) (ap (λ (t : Bool). any (cond t (ruleBytes (a .family) (a .ra) x) [])) changed)))
     (c .either2 .ensures ∙ ap (λ (t : Bool). c .before .before .before .before .before .before .before .before .before .before .before .before .before .before .before .before .before .before .loop .moved || t) (c .before .both3 .ensures ∙ ap (λ (t : Bool). eqb (x .register) (a .ra) && t) changed)) in
     (next, length-set (s .kind) _ _ ∙ lk, length-set (s .value) _ _ ∙ lv)
 

@@ -1,6 +1,4 @@
 -- `value_form`: past 65,535 no table has a name.
-use mathlib.Core.Path.{sym, ap, _∙_}
-use Rattle.dwarf.specs.Dwarf.{nameForm}
 use Rattle.dwarf.proofs.Forms.{name-far}
 use borrow.Author.Needs.{needs}
 use Rattle.dwarf.proofs.value_form.Statement.{statement}
@@ -19,8 +17,7 @@ no-form-requires : tie.Need-no-form-requires
 no-form-requires c κs = search needs
 
 returns-2 : tie.Need-returns-2
-unfolding nameForm
-returns-2 c = c .no-form .ensures ∙ sym (ap nameForm (name-far (c .before .before .args .family) (c .before .before .args .value) (c .before .if1 .left)))
+returns-2 c = rw (name-far (c .before .before .args .family) (c .before .before .args .value) (c .before .if1 .left)) (c .no-form .ensures)
 
 pub value-form-spec : {M : Type 1} → statement M
 value-form-spec =
