@@ -1,4 +1,4 @@
--- An ARM64 body (document 01, "ARM64 body"): its operations from the words, refusals 4 and 6, skipping, and its text as the encoder runs.
+-- An ARM64 body (document 01, "ARM64 body"): its operations from the words, refusals 4 and 6, skipping, and its text as the operations are run.
 -- A body's words are ws; a word that is missing reads 0.
 use Prim.Native.Nat.{ℕ, zero, suc, _+_, _*_, _^_}
 use mathlib.Core.Bool.{Bool, true, false, not, cond, _&&_, _||_}
@@ -17,7 +17,6 @@ use Rattle.entry.specs.Entry.{Entry, comesTo, word}
 use Rattle.arm64.specs.declared.Op.{Op}
 use Rattle.arm64.specs.declared.Op.the-variants.{AllocStack, SaveReg, SaveRegPreindexed, SaveRegPair, SaveRegPairPreindexed, SaveLrPair, SaveNext, Other, End, Undecodable}
 use Rattle.arm64.specs.declared.Saved.{Saved}
-use Rattle.arm64.specs.declared.BreakpadEncoder.{BreakpadEncoder}
 
 -- ---- operations from words
 
@@ -40,9 +39,9 @@ opCount ws = word ws 2
 unfoldable pub ops : List ℕ → List Op
 ops ws = reverse (counting ws 3 (opCount ws))
 
--- ---- the encoder, a step for each operation
+-- ---- what an operation does, where the total before it is T and the last pair's second register p
 
--- how far a pair's second lies above its first: 16 for q
+-- how far a pair's second lies above its first: 8 (q: 16)
 unfoldable pub width : ℕ → ℕ
 width l = cond (ltb l 2) 8 16
 
@@ -54,100 +53,81 @@ above p = record { letter = p .letter; register = p .register + 1; a = p .a + wi
 abbrev pub saved : ℕ → ℕ → ℕ → ℕ → Saved
 saved l r x y = record { letter = l; register = r; a = x; b = y }
 
--- T is 0, and the last pair ends in x0 at place 0
-unfoldable pub startEncoder : BreakpadEncoder
-startEncoder = record {
-  «stack_size» = 0;
-  last = saved 0 0 0 0;
-  «cfa_touched» = false;
-  one = false;
-  first = saved 0 0 0 0;
-  two = false;
-  second = saved 0 0 0 0;
-  «ra_written» = false;
-}
+-- T grows by an allocation's value, and by that of a pre-indexed save
+unfoldable pub growthOf : Op → ℕ
+growthOf (AllocStack v) = v
+growthOf (SaveReg l r v) = 0
+growthOf (SaveRegPreindexed l r v) = v
+growthOf (SaveRegPair l r v) = 0
+growthOf (SaveRegPairPreindexed l r v) = v
+growthOf (SaveLrPair r v) = 0
+growthOf SaveNext = 0
+growthOf Other = 0
+growthOf End = 0
+growthOf Undecodable = 0
 
--- nothing written
-unfoldable pub began : BreakpadEncoder → BreakpadEncoder
-began e = record {
-  «stack_size» = e .«stack_size»;
-  last = e .last;
-  «cfa_touched» = false;
-  one = false;
-  first = saved 0 0 0 0;
-  two = false;
-  second = saved 0 0 0 0;
-  «ra_written» = false;
-}
+-- an allocation writes the CFA, so does a pre-indexed save; other is an allocation of 0
+unfoldable pub writesCfa : Op → Bool
+writesCfa (AllocStack v) = true
+writesCfa (SaveReg l r v) = false
+writesCfa (SaveRegPreindexed l r v) = true
+writesCfa (SaveRegPair l r v) = false
+writesCfa (SaveRegPairPreindexed l r v) = true
+writesCfa (SaveLrPair r v) = false
+writesCfa SaveNext = false
+writesCfa Other = true
+writesCfa End = false
+writesCfa Undecodable = false
 
--- T grows, and the CFA is written
-unfoldable pub grown : BreakpadEncoder → ℕ → BreakpadEncoder
-grown e v = record {
-  «stack_size» = e .«stack_size» + v;
-  last = e .last;
-  «cfa_touched» = true;
-  one = e .one;
-  first = e .first;
-  two = e .two;
-  second = e .second;
-  «ra_written» = e .«ra_written»;
-}
+-- what an operation saves: nothing, a register by itself, or a pair
+pub data Saves : Type 0 where
+  nothing : Saves
+  alone : Saved → Saves
+  paired : Saved → Saved → Saves
 
--- one register is saved
-unfoldable pub single : BreakpadEncoder → Saved → BreakpadEncoder
-single e p = record {
-  «stack_size» = e .«stack_size»;
-  last = e .last;
-  «cfa_touched» = e .«cfa_touched»;
-  one = true;
-  first = p;
-  two = false;
-  second = e .second;
-  «ra_written» = e .«ra_written»;
-}
+-- a pair's second lies above its first
+abbrev pub pairFrom : Saved → Saves
+pairFrom q = paired q (above q)
 
--- two are; .ra where the second is x30
-unfoldable pub double : BreakpadEncoder → Saved → Saved → BreakpadEncoder
-double e p q = record {
-  «stack_size» = e .«stack_size»;
-  last = e .last;
-  «cfa_touched» = e .«cfa_touched»;
-  one = true;
-  first = p;
-  two = true;
-  second = q;
-  «ra_written» = eqb (q .letter) 0 && eqb (q .register) 30;
-}
+-- places are value - T, or -value - T where pre-indexed; kind 6 is x register and x30 as a pair; save-next continues from p
+unfoldable pub saves : ℕ → Saved → Op → Saves
+saves T p (AllocStack v) = nothing
+saves T p (SaveReg l r v) = alone (saved l r v T)
+saves T p (SaveRegPreindexed l r v) = alone (saved l r 0 (T + v))
+saves T p (SaveRegPair l r v) = pairFrom (saved l r v T)
+saves T p (SaveRegPairPreindexed l r v) = pairFrom (saved l r 0 (T + v))
+saves T p (SaveLrPair r v) = paired (saved 0 r v T) (saved 0 30 (v + 8) T)
+saves T p SaveNext = pairFrom (above p)
+saves T p Other = nothing
+saves T p End = nothing
+saves T p Undecodable = nothing
 
--- these two are the last pair
-unfoldable pub remembered : BreakpadEncoder → BreakpadEncoder
-remembered e = record {
-  «stack_size» = e .«stack_size»;
-  last = e .second;
-  «cfa_touched» = e .«cfa_touched»;
-  one = e .one;
-  first = e .first;
-  two = e .two;
-  second = e .second;
-  «ra_written» = e .«ra_written»;
-}
+-- save-next continues at first from x0 and place 0
+abbrev pub noPair : Saved
+noPair = saved 0 0 0 0
 
--- a pair is the last pair
-abbrev pub pair : BreakpadEncoder → Saved → BreakpadEncoder
-pair e p = remembered (double e p (above p))
+-- and then from the second of the last of kinds 4, 5 and 7
+unfoldable pub lastAfter : ℕ → Saved → Op → Saved
+lastAfter T p (AllocStack v) = p
+lastAfter T p (SaveReg l r v) = p
+lastAfter T p (SaveRegPreindexed l r v) = p
+lastAfter T p (SaveRegPair l r v) = above (saved l r v T)
+lastAfter T p (SaveRegPairPreindexed l r v) = above (saved l r 0 (T + v))
+lastAfter T p (SaveLrPair r v) = p
+lastAfter T p SaveNext = above (above p)
+lastAfter T p Other = p
+lastAfter T p End = p
+lastAfter T p Undecodable = p
 
--- places are value - T, or -value - T where pre-indexed, and then T grows by value
-unfoldable pub stepped : BreakpadEncoder → Op → BreakpadEncoder
-stepped e (AllocStack v) = grown (began e) v
-stepped e (SaveReg l r v) = single (began e) (saved l r v (e .«stack_size»))
-stepped e (SaveRegPreindexed l r v) = grown (single (began e) (saved l r 0 (e .«stack_size» + v))) v
-stepped e (SaveRegPair l r v) = pair (began e) (saved l r v (e .«stack_size»))
-stepped e (SaveRegPairPreindexed l r v) = grown (pair (began e) (saved l r 0 (e .«stack_size» + v))) v
-stepped e (SaveLrPair r v) = double (began e) (saved 0 r v (e .«stack_size»)) (saved 0 30 (v + 8) (e .«stack_size»))
-stepped e SaveNext = pair (began e) (above (e .last))
-stepped e Other = grown (began e) 0
-stepped e End = began e
-stepped e Undecodable = began e
+-- x30, the link register
+abbrev pub isLr : Saved → Bool
+isLr p = eqb (p .letter) 0 && eqb (p .register) 30
+
+-- .ra is added for x30 as a pair's second
+unfoldable pub writesRa : Saves → Bool
+writesRa nothing = false
+writesRa (alone p) = false
+writesRa (paired p q) = isLr q
 
 -- ---- the text, in bytes
 
@@ -171,37 +151,42 @@ raText p = ascii " .ra: " ++ placeText (p .a) (p .b)
 abbrev pub given : Bool → List ℕ → List ℕ
 given t bs = cond t bs []
 
--- what the operation just run writes: the CFA first
-unfoldable pub stepText : BreakpadEncoder → List ℕ
-stepText e =
-    given (e .«cfa_touched») (cfaText (e .«stack_size»)) ++ given (e .one) (savedText (e .first)) ++ given (e .two) (savedText (e .second))
-    ++ given (e .«ra_written») (raText (e .second))
+-- the registers in order, then .ra
+unfoldable pub savesText : Saves → List ℕ
+savesText nothing = []
+savesText (alone p) = savedText p
+savesText (paired p q) = savedText p ++ savedText q ++ given (isLr q) (raText q)
 
--- line 0 ends with defaults if unwritten
-unfoldable pub defaultsText : BreakpadEncoder → List ℕ
-defaultsText e = given (not (e .«cfa_touched»)) (ascii " .cfa: .sp") ++ given (not (e .«ra_written»)) (ascii " .ra: .x30")
+-- what an operation writes: the CFA first, with T after it
+unfoldable pub opText : ℕ → Saved → Op → List ℕ
+opText T p o = given (writesCfa o) (cfaText (T + growthOf o)) ++ savesText (saves T p o)
 
--- line 0: INIT, address, size
-unfoldable pub firstLine : ℕ → ℕ → BreakpadEncoder → List ℕ
-firstLine a z e = ascii "STACK CFI INIT " ++ hex a ++ ascii " " ++ hex z ++ stepText e ++ defaultsText e ++ ascii "\n"
+-- defaults, if the CFA or .ra is unwritten
+unfoldable pub defaultsText : Bool → Bool → List ℕ
+defaultsText cfa ra = given (not cfa) (ascii " .cfa: .sp") ++ given (not ra) (ascii " .ra: .x30")
+
+-- line 0: INIT, address, size; it ends with the defaults
+unfoldable pub firstLine : ℕ → ℕ → List ℕ → List ℕ → List ℕ
+firstLine a z rules defaults = ascii "STACK CFI INIT " ++ hex a ++ ascii " " ++ hex z ++ rules ++ defaults ++ ascii "\n"
 
 -- after the first "STACK CFI" has six spaces
-unfoldable pub laterLine : ℕ → BreakpadEncoder → List ℕ
-laterLine a e = ascii "STACK CFI      " ++ hex a ++ stepText e ++ ascii "\n"
+unfoldable pub laterLine : ℕ → List ℕ → List ℕ
+laterLine a rules = ascii "STACK CFI      " ++ hex a ++ rules ++ ascii "\n"
 
 -- line i of a function at address a of size z is at address + 4i
-unfoldable pub nthLine : ℕ → ℕ → ℕ → BreakpadEncoder → List ℕ
-nthLine a z zero e = firstLine a z e
-nthLine a z (suc i) e = laterLine (a + 4 * suc i) e
+unfoldable pub nthLine : ℕ → ℕ → ℕ → List ℕ → List ℕ → List ℕ
+nthLine a z zero rules defaults = firstLine a z rules defaults
+nthLine a z (suc i) rules defaults = laterLine (a + 4 * suc i) rules
 
--- the lines from line i on, where the state before it is e
-unfoldable pub run : ℕ → ℕ → ℕ → BreakpadEncoder → List Op → List ℕ
-run a z i e [] = []
-run a z i e (o ∷ os) = nthLine a z i (stepped e o) ++ run a z (suc i) (stepped e o) os
+-- the lines from line i on, where T and p are those before it
+unfoldable pub run : ℕ → ℕ → ℕ → ℕ → Saved → List Op → List ℕ
+run a z i T p [] = []
+run a z i T p (o ∷ os) =
+    nthLine a z i (opText T p o) (defaultsText (writesCfa o) (writesRa (saves T p o))) ++ run a z (suc i) (T + growthOf o) (lastAfter T p o) os
 
--- the text of an entry
+-- the text of an entry: T starts at 0
 unfoldable pub armText : List ℕ → List ℕ
-armText ws = run (word ws 0) (word ws 1) 0 startEncoder (ops ws)
+armText ws = run (word ws 0) (word ws 1) 0 0 noPair (ops ws)
 
 -- ---- refusal 4: ranges, and exactly the words that the counts demand
 
@@ -241,25 +226,30 @@ valueOf End = 0
 valueOf Undecodable = 0
 
 -- a register that is saved is at most 255 and its place inside signed 32 bits
-unfoldable pub savedFits : Bool → Saved → Bool
-savedFits t p = cond t (inside (subℕ (p .a) (p .b)) && leb (p .register) 255) true
+unfoldable pub savedFits : Saved → Bool
+savedFits p = inside (subℕ (p .a) (p .b)) && leb (p .register) 255
+
+-- each that an operation saves
+unfoldable pub savesFit : Saves → Bool
+savesFit nothing = true
+savesFit (alone p) = savedFits p
+savesFit (paired p q) = savedFits p && savedFits q
 
 -- the value used, the total, the registers and their places, and the line's address
-unfoldable pub fits : ℕ → ℕ → BreakpadEncoder → Bool
-fits address v e =
-    ltb v (2 ^ 31) && (inside (pos (e .«stack_size»)) && (savedFits (e .one) (e .first) && (savedFits (e .two) (e .second) && ltb address (2 ^ 32))))
+unfoldable pub fits : ℕ → ℕ → Saved → Op → Bool
+fits address T p o = ltb (valueOf o) (2 ^ 31) && (inside (pos (T + growthOf o)) && (savesFit (saves T p o) && ltb address (2 ^ 32)))
 
--- every line is in reach
-unfoldable pub inReach : ℕ → ℕ → BreakpadEncoder → List Op → Bool
-inReach a i e [] = true
-inReach a i e (o ∷ os) = fits (a + 4 * i) (valueOf o) (stepped e o) && inReach a (suc i) (stepped e o) os
+-- every line from line i on is in reach
+unfoldable pub inReach : ℕ → ℕ → ℕ → Saved → List Op → Bool
+inReach a i T p [] = true
+inReach a i T p (o ∷ os) = fits (a + 4 * i) T p o && inReach a (suc i) (T + growthOf o) (lastAfter T p o) os
 
 -- ---- one entry: 4, skipping, 6
 
 -- 4, skipping, then 6
 unfoldable pub armJudged : List ℕ → Judged
 armJudged ws =
-    cond (armLayout ws) (cond (undecodable ws 3 (opCount ws)) Skip (cond (inReach (word ws 0) 0 startEncoder (ops ws)) Write (Refuse 6))) (Refuse 4)
+    cond (armLayout ws) (cond (undecodable ws 3 (opCount ws)) Skip (cond (inReach (word ws 0) 0 0 noPair (ops ws)) Write (Refuse 6))) (Refuse 4)
 
 -- ARM64 passes on what was left to it
 unfoldable pub armEntry : Last → List ℕ → Entry
@@ -267,5 +257,5 @@ armEntry last ws = comesTo (armJudged ws) (armText ws) last last
 
 -- what to unfold where ARM64 entries are to compute
 unfoldable pub Arm64·open : Type 0
-unfolding Digits·open letterOf arm64Name inside opOf counting ops width above startEncoder began grown single double remembered stepped savedText cfaText raText stepText defaultsText firstLine laterLine nthLine run armText opFits opsFit armLayout undecodable valueOf savedFits fits inReach armJudged armEntry
+unfolding Digits·open letterOf arm64Name inside opOf counting ops width above growthOf writesCfa saves lastAfter writesRa savedText cfaText raText savesText opText defaultsText firstLine laterLine nthLine run armText opFits opsFit armLayout undecodable valueOf savedFits savesFit fits inReach armJudged armEntry
 Arm64·open = Unit {0}

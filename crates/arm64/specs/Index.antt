@@ -2,21 +2,18 @@
 use mathlib.Core.Path.{_≡_, refl, sym, ap, _∙_}
 use Prim.Native.Nat.{ℕ, zero, suc, _+_, _-_, _*_, _^_, _≤_, _<_}
 use native.Mathlib.Omega.{arith}
-use mathlib.Core.Bool.{Bool, true, false, cond, _&&_, _||_, false≢true}
+use mathlib.Core.Bool.{Bool, true, false, cond, _&&_, _||_}
 use mathlib.Core.List.{List, [], _∷_, _++_, reverse, reverse-cons}
 use native.Mathlib.Decide.{decLe, decLt}
 use borrow.Author.Tests.{le-leb, lt-leb, lt-ltb, le-ltb}
 use lib.IntN.{subℕ}
 use lib.Dec.{T, ltb, leb, eqb, ltb→lt, leb→le}
-use Rattle.text.specs.Tests.{and-l, and-r, one-less}
+use Rattle.text.specs.Tests.{and-l, one-less}
 use Rattle.lines.specs.Reach.{inside}
 use Rattle.entry.specs.declared.Judged.the-variants.{Write}
 use Rattle.arm64.specs.declared.Op.{Op}
-use Rattle.arm64.specs.declared.Op.the-variants.{AllocStack, SaveReg, SaveRegPreindexed, SaveRegPair, SaveRegPairPreindexed, SaveLrPair, SaveNext, Other, End, Undecodable}
-use Rattle.arm64.specs.declared.Saved.{Saved}
-use Rattle.arm64.specs.declared.BreakpadEncoder.{BreakpadEncoder}
 use Rattle.entry.specs.Entry.{word, only-written}
-use Rattle.arm64.specs.Arm64.{opOf, counting, opCount, ops, width, above, startEncoder, began, grown, single, double, remembered, stepped, savedFits, fits, valueOf, inReach, opFits, opsFit, armLayout, undecodable, armJudged}
+use Rattle.arm64.specs.Arm64.{opOf, counting, opCount, ops, noPair, inReach, opFits, opsFit, armLayout, undecodable, armJudged}
 
 -- the operation whose words start at i
 unfoldable pub opAt : List ℕ → ℕ → Op
@@ -110,133 +107,15 @@ pub inside-above : (a b : ℕ) → b ≤ a → ltb (a - b) (2 ^ 31) ≡ inside (
 unfolding inside
 inside-above a b h = rw (le-ltb a b h)
 
-inside-bound : (a b : ℕ) → T (inside (subℕ a b)) → a < b + 2 ^ 31
+pub inside-bound : (a b : ℕ) → T (inside (subℕ a b)) → a < b + 2 ^ 31
 unfolding inside
 inside-bound a b h = elim (decLt a b) [
   | yes p ↦ omega arith
   | no p ↦ let q : b ≤ a = omega arith in omega (arith, ltb→lt (a - b) (2 ^ 31) (rw (le-ltb a b q) at h))
 ]
 
--- ---- what keeps the code's sums in range
-
--- between operations
-pub record Small (e : BreakpadEncoder) : Type 0 where
-  pub total : e .«stack_size» < 2 ^ 31
-  pub register : e .last .register < 256
-  pub up : e .last .a < 2 ^ 33
-  pub down : e .last .b < 2 ^ 32
-
--- where a line is written
-pub record Printable (e : BreakpadEncoder) : Type 0 where
-  pub total : e .«stack_size» < 2 ^ 31
-  pub first : (e .first .register < 2 ^ 32) × (e .first .a < 2 ^ 63) × (e .first .b < 2 ^ 63)
-  pub second : (e .second .register < 2 ^ 32) × (e .second .a < 2 ^ 63) × (e .second .b < 2 ^ 63)
-
-pub width-small : (l : ℕ) → width l ≤ 16
-unfolding width
-width-small l = go (ltb l 2)
-  where
-    go : (t : Bool) → cond t 8 16 ≤ 16
-    go true = omega arith
-    go false = omega arith
-
-pub small-start : Small startEncoder
-unfolding startEncoder
-small-start = record { total = omega arith; register = omega arith; up = omega arith; down = omega arith }
-
--- what a fitting line says of its numbers
-record Fitting (v : ℕ) (e : BreakpadEncoder) : Type 0 where
-  value : v < 2 ^ 31
-  total : e .«stack_size» < 2 ^ 31
-  first : e .one ≡ true → (e .first .register ≤ 255) × (e .first .a < e .first .b + 2 ^ 31)
-  second : e .two ≡ true → (e .second .register ≤ 255) × (e .second .a < e .second .b + 2 ^ 31)
-
-saved-fits : (t : Bool) (p : Saved) → T (savedFits t p) → t ≡ true → (p .register ≤ 255) × (p .a < p .b + 2 ^ 31)
-unfolding savedFits
-saved-fits true p h e =
-    (leb→le (p .register) 255 (and-r (inside (subℕ (p .a) (p .b))) _ h), inside-bound (p .a) (p .b) (and-l (inside (subℕ (p .a) (p .b))) _ h))
-saved-fits false p h e = absurd (false≢true e)
-
-fitting : (address v : ℕ) (e : BreakpadEncoder) → T (fits address v e) → Fitting v e
-unfolding fits inside
-fitting address v e h =
-    let a : T (ltb v (2 ^ 31)) = search and-l in
-    let b : T (ltb (e .«stack_size») (2 ^ 31)) = search (and-l, and-r) in
-    let p : T (savedFits (e .one) (e .first)) = search (and-l, and-r) in
-    let q : T (savedFits (e .two) (e .second)) = search (and-l, and-r) in
-    record {
-      value = ltb→lt v (2 ^ 31) a;
-      total = ltb→lt (e .«stack_size») (2 ^ 31) b;
-      first = saved-fits (e .one) (e .first) p;
-      second = saved-fits (e .two) (e .second) q;
-    }
-
--- by cases on the operation
-bounds : (e : BreakpadEncoder) (o : Op) → Small e → Fitting (valueOf o) (stepped e o) → Small (stepped e o) × Printable (stepped e o)
-unfolding stepped began grown single double remembered above valueOf
-bounds e (AllocStack v) s f = (
-  record { total = f .total; register = s .register; up = s .up; down = s .down },
-  record { total = f .total; first = (omega arith, omega arith, omega arith); second = (omega arith, omega arith, omega arith) },
-)
-bounds e (SaveReg l r v) s f = (
-  record { total = f .total; register = s .register; up = s .up; down = s .down },
-  record { total = f .total; first = (omega (arith, f .first refl), omega (arith, f .value), omega (arith, s .total)); second = (omega arith, omega arith, omega arith) },
-)
-bounds e (SaveRegPreindexed l r v) s f = (
-  record { total = f .total; register = s .register; up = s .up; down = s .down },
-  record { total = f .total; first = (omega (arith, f .first refl), omega arith, omega (arith, f .value, s .total)); second = (omega arith, omega arith, omega arith) },
-)
-bounds e (SaveRegPair l r v) s f = (
-  record { total = f .total; register = omega (arith, f .second refl); up = omega (arith, f .value, width-small l); down = omega (arith, s .total) },
-  record {
-    total = f .total;
-    first = (omega (arith, f .first refl), omega (arith, f .value), omega (arith, s .total));
-    second = (omega (arith, f .second refl), omega (arith, f .value, width-small l), omega (arith, s .total));
-  },
-)
-bounds e (SaveRegPairPreindexed l r v) s f = (
-  record { total = f .total; register = omega (arith, f .second refl); up = omega (arith, width-small l); down = omega (arith, f .value, s .total) },
-  record {
-    total = f .total;
-    first = (omega (arith, f .first refl), omega arith, omega (arith, f .value, s .total));
-    second = (omega (arith, f .second refl), omega (arith, width-small l), omega (arith, f .value, s .total));
-  },
-)
-bounds e (SaveLrPair r v) s f = (
-  record { total = f .total; register = s .register; up = s .up; down = s .down },
-  record {
-    total = f .total;
-    first = (omega (arith, f .first refl), omega (arith, f .value), omega (arith, s .total));
-    second = (omega arith, omega (arith, f .value), omega (arith, s .total));
-  },
-)
-bounds e SaveNext s f = (
-  record { total = f .total; register = omega (arith, f .second refl); up = omega (arith, f .second refl, s .down); down = s .down },
-  record {
-    total = f .total;
-    first = (omega (arith, f .first refl), omega (arith, f .first refl, s .down), omega (arith, s .down));
-    second = (omega (arith, f .second refl), omega (arith, f .second refl, s .down), omega (arith, s .down));
-  },
-)
-bounds e Other s f = (
-  record { total = f .total; register = s .register; up = s .up; down = s .down },
-  record { total = f .total; first = (omega arith, omega arith, omega arith); second = (omega arith, omega arith, omega arith) },
-)
-bounds e End s f = (
-  record { total = f .total; register = s .register; up = s .up; down = s .down },
-  record { total = f .total; first = (omega arith, omega arith, omega arith); second = (omega arith, omega arith, omega arith) },
-)
-bounds e Undecodable s f = (
-  record { total = f .total; register = s .register; up = s .up; down = s .down },
-  record { total = f .total; first = (omega arith, omega arith, omega arith); second = (omega arith, omega arith, omega arith) },
-)
-
--- an operation whose line is in reach keeps all numbers in range
-pub line-bounds : (address : ℕ) (e : BreakpadEncoder) (o : Op) → Small e → T (fits address (valueOf o) (stepped e o)) → Small (stepped e o) × Printable (stepped e o)
-line-bounds address e o s h = bounds e o s (fitting address (valueOf o) (stepped e o) h)
-
 -- ---- an entry that is written
 
-pub written : (ws : List ℕ) → armJudged ws ≡ Write → T (armLayout ws) × T (inReach (word ws 0) 0 startEncoder (ops ws))
+pub written : (ws : List ℕ) → armJudged ws ≡ Write → T (armLayout ws) × T (inReach (word ws 0) 0 0 noPair (ops ws))
 unfolding armJudged
-written ws h = only-written (armLayout ws) (undecodable ws 3 (opCount ws)) (inReach (word ws 0) 0 startEncoder (ops ws)) 6 h
+written ws h = only-written (armLayout ws) (undecodable ws 3 (opCount ws)) (inReach (word ws 0) 0 0 noPair (ops ws)) 6 h

@@ -1,5 +1,5 @@
 -- The sense of an ARM64 entry (document 01, "Sense" and "ARM64 body"): its lines, with each operation's T by a sum over those run before it, and
--- save-next by the last earlier pair. Proved below: the text as the encoder runs is these lines' text, and every line is well formed.
+-- save-next by the last earlier pair. Proved below: the text as the operations are run is these lines' text, and every line is well formed.
 use mathlib.Core.Path.{_≡_, refl, sym, ap, _∙_}
 use Prim.Native.Nat.{ℕ, zero, suc, _+_, _*_}
 use native.Mathlib.Omega.{arith}
@@ -22,11 +22,10 @@ use Rattle.entry.specs.Entry.{comesTo, ifWritten, word}
 use Rattle.arm64.specs.declared.Op.{Op}
 use Rattle.arm64.specs.declared.Op.the-variants.{AllocStack, SaveReg, SaveRegPreindexed, SaveRegPair, SaveRegPairPreindexed, SaveLrPair, SaveNext, Other, End, Undecodable}
 use Rattle.arm64.specs.declared.Saved.{Saved}
-use Rattle.arm64.specs.declared.BreakpadEncoder.{BreakpadEncoder}
 -- the body, for the sense
-use Rattle.arm64.specs.Arm64.{ops, above, saved, armJudged}
+use Rattle.arm64.specs.Arm64.{ops, above, saved, isLr, armJudged}
 -- the text, for the proofs
-use Rattle.arm64.specs.Arm64.{startEncoder, began, grown, single, double, remembered, stepped, savedText, cfaText, raText, given, stepText, defaultsText, firstLine, laterLine, nthLine, run, armText, armEntry}
+use Rattle.arm64.specs.Arm64.{growthOf, writesCfa, Saves, nothing, alone, paired, saves, noPair, lastAfter, writesRa, savedText, cfaText, raText, given, savesText, opText, defaultsText, firstLine, laterLine, nthLine, run, armText, armEntry}
 
 -- ---- sums and pairs
 
@@ -80,10 +79,6 @@ raRule p = rule (ascii ".ra") (atCfaPlus (subℕ (p .a) (p .b)))
 abbrev pub optional : Bool → Rule → List Rule
 optional t r = cond t (r ∷ []) []
 
--- x30, the link register
-abbrev pub isLr : Saved → Bool
-isLr p = eqb (p .letter) 0 && eqb (p .register) 30
-
 -- a pair, with .ra where its second is x30
 unfoldable pub twoRules : Saved → Saved → List Rule
 twoRules p q = savedRule p ∷ savedRule q ∷ optional (isLr q) (raRule q)
@@ -127,68 +122,65 @@ linesFrom a z ds (o ∷ os) = armLine a z (length ds) (opRules ds o) ∷ linesFr
 unfoldable pub armLines : List ℕ → List Line
 armLines ws = ifWritten (armJudged ws) (linesFrom (word ws 0) (word ws 1) [] (ops ws))
 
--- ---- the encoder keeps the sum and the last pair
+-- ---- the total and the last pair of the run are the sum and the last earlier pair
 
--- the state after operations, latest first
-abbrev Kept : BreakpadEncoder → List Op → Type 0
-Kept e ds = (e .«stack_size» ≡ sum ds) × (e .last ≡ lastPair ds)
-
-kept-start : Kept startEncoder []
-unfolding startEncoder sum lastPair
-kept-start = (refl, refl)
-
-kept-step : (e : BreakpadEncoder) (ds : List Op) (o : Op) → Kept e ds → Kept (stepped e o) (o ∷ ds)
-unfolding stepped began grown single double remembered sum addedBy lastPair
-kept-step e ds (AllocStack v) (t, l) = (rw t, l)
-kept-step e ds (SaveReg l r v) (t, k) = (rw t (omega arith), k)
-kept-step e ds (SaveRegPreindexed l r v) (t, k) = (rw t, k)
-kept-step e ds (SaveRegPair l r v) (t, k) = (rw t (omega arith), rw t)
-kept-step e ds (SaveRegPairPreindexed l r v) (t, k) = (rw t, rw t)
-kept-step e ds (SaveLrPair r v) (t, k) = (rw t (omega arith), k)
-kept-step e ds SaveNext (t, k) = (rw t (omega arith), rw k)
-kept-step e ds Other (t, k) = (rw t, k)
-kept-step e ds End (t, k) = (rw t (omega arith), k)
-kept-step e ds Undecodable (t, k) = (rw t (omega arith), k)
+kept : (ds : List Op) (o : Op) → (sum ds + growthOf o ≡ sum (o ∷ ds)) × (lastAfter (sum ds) (lastPair ds) o ≡ lastPair (o ∷ ds))
+unfolding growthOf lastAfter sum addedBy lastPair
+kept ds (AllocStack v) = (refl, refl)
+kept ds (SaveReg l r v) = (refl, refl)
+kept ds (SaveRegPreindexed l r v) = (refl, refl)
+kept ds (SaveRegPair l r v) = (refl, refl)
+kept ds (SaveRegPairPreindexed l r v) = (refl, refl)
+kept ds (SaveLrPair r v) = (refl, refl)
+kept ds SaveNext = (refl, refl)
+kept ds Other = (refl, refl)
+kept ds End = (refl, refl)
+kept ds Undecodable = (refl, refl)
 
 -- ---- an operation's text is its rules' text
+
+-- what an operation saves, as rules
+savesRules : Saves → List Rule
+savesRules nothing = []
+savesRules (alone p) = savedRule p ∷ []
+savesRules (paired p q) = twoRules p q
+
+op-rules : (ds : List Op) (o : Op) → opRules ds o ≡ optional (writesCfa o) (cfaRule (sum ds + growthOf o)) ++ savesRules (saves (sum ds) (lastPair ds) o)
+unfolding growthOf writesCfa saves opRules savesRules
+op-rules ds (AllocStack v) = refl
+op-rules ds (SaveReg l r v) = refl
+op-rules ds (SaveRegPreindexed l r v) = refl
+op-rules ds (SaveRegPair l r v) = refl
+op-rules ds (SaveRegPairPreindexed l r v) = refl
+op-rules ds (SaveLrPair r v) = refl
+op-rules ds SaveNext = refl
+op-rules ds Other = let z : sum ds + 0 ≡ sum ds = omega arith in rw z
+op-rules ds End = refl
+op-rules ds Undecodable = refl
 
 optional-text : (t : Bool) (r : Rule) → given t (ruleText r) ≡ rulesText (optional t r)
 unfolding rulesText
 optional-text true r = sym (append-nil (ruleText r))
 optional-text false r = refl
 
--- a pair's text
-two-text : (p q : Saved) → savedText p ++ (savedText q ++ given (isLr q) (raText q)) ≡ rulesText (twoRules p q)
-unfolding savedText raText savedRule raRule twoRules formText ruleText rulesText
-two-text p q = ap (λ (l : Bytes). savedText p ++ (savedText q ++ l)) (optional-text (isLr q) (raRule q))
+cfa-text : (n : ℕ) → cfaText n ≡ ruleText (cfaRule n)
+unfolding cfaText cfaRule formText ruleText
+cfa-text n = refl
 
--- the four parts, with brackets to the right
-abbrev parts : BreakpadEncoder → Bytes
-parts e =
-    given (e .«cfa_touched») (cfaText (e .«stack_size»)) ++ (given (e .one) (savedText (e .first)) ++ (given (e .two) (savedText (e .second))
-    ++ given (e .«ra_written») (raText (e .second))))
+saves-text : (s : Saves) → savesText s ≡ rulesText (savesRules s)
+unfolding savedText raText savesText savedRule raRule twoRules savesRules formText ruleText rulesText
+saves-text nothing = refl
+saves-text (alone p) = sym (append-nil (savedText p))
+saves-text (paired p q) =
+    append-assoc (savedText p) (savedText q) (given (isLr q) (raText q))
+    ∙ ap (λ (l : Bytes). savedText p ++ (savedText q ++ l)) (optional-text (isLr q) (raRule q))
 
-step-parts : (e : BreakpadEncoder) → stepText e ≡ parts e
-unfolding stepText
-step-parts e = simp append-assoc
-
-parts-text : (e : BreakpadEncoder) (ds : List Op) (o : Op) → Kept e ds → parts (stepped e o) ≡ rulesText (opRules ds o)
-unfolding stepped began grown single double remembered opRules savedText cfaText savedRule cfaRule formText ruleText rulesText
-parts-text e ds (AllocStack v) (t, k) = rw t
-parts-text e ds (SaveReg l r v) (t, k) = rw t
-parts-text e ds (SaveRegPreindexed l r v) (t, k) = rw t
-parts-text e ds (SaveRegPair l r v) (t, k) = rw t (two-text (saved l r v (sum ds)) (above (saved l r v (sum ds))))
-parts-text e ds (SaveRegPairPreindexed l r v) (t, k) =
-    let p : Saved = saved l r 0 (sum ds + v) in
-    rw t (ap (λ (b : Bytes). cfaText (sum ds + v) ++ b) (two-text p (above p)))
-parts-text e ds (SaveLrPair r v) (t, k) = rw t (two-text (saved 0 r v (sum ds)) (saved 0 30 (v + 8) (sum ds)))
-parts-text e ds SaveNext (t, k) = rw k (two-text (above (lastPair ds)) (above (above (lastPair ds))))
-parts-text e ds Other (t, k) = let z : sum ds + 0 ≡ sum ds = omega arith in rw (t, z)
-parts-text e ds End (t, k) = refl
-parts-text e ds Undecodable (t, k) = refl
-
-step-text : (e : BreakpadEncoder) (ds : List Op) (o : Op) → Kept e ds → stepText (stepped e o) ≡ rulesText (opRules ds o)
-step-text e ds o k = step-parts (stepped e o) ∙ parts-text e ds o k
+op-text : (ds : List Op) (o : Op) → opText (sum ds) (lastPair ds) o ≡ rulesText (opRules ds o)
+unfolding opText
+op-text ds o =
+    let n : ℕ = sum ds + growthOf o in
+    let s : Saves = saves (sum ds) (lastPair ds) o in
+    rw (op-rules ds o, rules-append (optional (writesCfa o) (cfaRule n)) (savesRules s), ← optional-text (writesCfa o) (cfaRule n), ← cfa-text n, ← saves-text s)
 
 -- ---- the names that an operation's rules lack are those that were not written
 
@@ -220,35 +212,30 @@ two-ra p q = rw (no-ra (p .letter) (p .register), no-ra (q .letter) (q .register
     go true = refl
     go false = refl
 
-lacks-cfa : (e : BreakpadEncoder) (ds : List Op) (o : Op) → lacks cfa (opRules ds o) ≡ not (stepped e o .«cfa_touched»)
-unfolding stepped began grown single double remembered opRules savedRule cfaRule lacks
-lacks-cfa e ds (AllocStack v) = refl
-lacks-cfa e ds (SaveReg l r v) = rw (no-cfa l r)
-lacks-cfa e ds (SaveRegPreindexed l r v) = refl
-lacks-cfa e ds (SaveRegPair l r v) = two-cfa (saved l r v (sum ds)) (above (saved l r v (sum ds)))
-lacks-cfa e ds (SaveRegPairPreindexed l r v) = refl
-lacks-cfa e ds (SaveLrPair r v) = two-cfa (saved 0 r v (sum ds)) (saved 0 30 (v + 8) (sum ds))
-lacks-cfa e ds SaveNext = two-cfa (above (lastPair ds)) (above (above (lastPair ds)))
-lacks-cfa e ds Other = refl
-lacks-cfa e ds End = refl
-lacks-cfa e ds Undecodable = refl
+lacks-cfa : (t : Bool) (n : ℕ) (s : Saves) → lacks cfa (optional t (cfaRule n) ++ savesRules s) ≡ not t
+unfolding cfaRule savedRule savesRules lacks
+lacks-cfa true n s = refl
+lacks-cfa false n nothing = refl
+lacks-cfa false n (alone p) = rw (no-cfa (p .letter) (p .register))
+lacks-cfa false n (paired p q) = two-cfa p q
 
-lacks-ra : (e : BreakpadEncoder) (ds : List Op) (o : Op) → Kept e ds → lacks (ascii ".ra") (opRules ds o) ≡ not (stepped e o .«ra_written»)
-unfolding above stepped began grown single double remembered opRules savedRule cfaRule lacks
-lacks-ra e ds (AllocStack v) (t, k) = refl
-lacks-ra e ds (SaveReg l r v) (t, k) = rw (no-ra l r)
-lacks-ra e ds (SaveRegPreindexed l r v) (t, k) = rw (no-ra l r)
-lacks-ra e ds (SaveRegPair l r v) (t, k) = two-ra (saved l r v (sum ds)) (above (saved l r v (sum ds)))
-lacks-ra e ds (SaveRegPairPreindexed l r v) (t, k) = two-ra (saved l r 0 (sum ds + v)) (above (saved l r 0 (sum ds + v)))
-lacks-ra e ds (SaveLrPair r v) (t, k) = two-ra (saved 0 r v (sum ds)) (saved 0 30 (v + 8) (sum ds))
-lacks-ra e ds SaveNext (t, k) = rw k (two-ra (above (lastPair ds)) (above (above (lastPair ds))))
-lacks-ra e ds Other (t, k) = refl
-lacks-ra e ds End (t, k) = refl
-lacks-ra e ds Undecodable (t, k) = refl
+saves-ra : (s : Saves) → lacks (ascii ".ra") (savesRules s) ≡ not (writesRa s)
+unfolding writesRa savedRule savesRules lacks
+saves-ra nothing = refl
+saves-ra (alone p) = rw (no-ra (p .letter) (p .register))
+saves-ra (paired p q) = two-ra p q
 
-defaults-text : (e : BreakpadEncoder) (ds : List Op) (o : Op) → Kept e ds → defaultsText (stepped e o) ≡ rulesText (defaults (opRules ds o))
+lacks-ra : (t : Bool) (n : ℕ) (s : Saves) → lacks (ascii ".ra") (optional t (cfaRule n) ++ savesRules s) ≡ not (writesRa s)
+unfolding cfaRule lacks
+lacks-ra true n s = saves-ra s
+lacks-ra false n s = saves-ra s
+
+defaults-text : (ds : List Op) (o : Op) → defaultsText (writesCfa o) (writesRa (saves (sum ds) (lastPair ds) o)) ≡ rulesText (defaults (opRules ds o))
 unfolding defaultsText defaults formText ruleText rulesText
-defaults-text e ds o k = rw (lacks-cfa e ds o, lacks-ra e ds o k) (go (not (stepped e o .«cfa_touched»)) (not (stepped e o .«ra_written»)))
+defaults-text ds o =
+    let n : ℕ = sum ds + growthOf o in
+    let s : Saves = saves (sum ds) (lastPair ds) o in
+    rw (op-rules ds o, lacks-cfa (writesCfa o) n s, lacks-ra (writesCfa o) n s) (go (not (writesCfa o)) (not (writesRa s)))
   where
     go : (s t : Bool) → given s (ascii " .cfa: .sp") ++ given t (ascii " .ra: .x30")
         ≡ rulesText (optional s (rule cfa (register (ascii ".sp"))) ++ optional t (rule (ascii ".ra") (register (ascii ".x30"))))
@@ -259,27 +246,29 @@ defaults-text e ds o k = rw (lacks-cfa e ds o, lacks-ra e ds o k) (go (not (step
 
 -- ---- lines one after the other
 
-line-text : (a z i : ℕ) (e : BreakpadEncoder) (ds : List Op) (o : Op) → Kept e ds → nthLine a z i (stepped e o) ≡ lineText true (armLine a z i (opRules ds o))
+line-text : (a z i : ℕ) (ds : List Op) (o : Op)
+    → nthLine a z i (opText (sum ds) (lastPair ds) o) (defaultsText (writesCfa o) (writesRa (saves (sum ds) (lastPair ds) o)))
+    ≡ lineText true (armLine a z i (opRules ds o))
 unfolding firstLine laterLine nthLine armLine initText laterText lineText
-line-text a z zero e ds o k =
+line-text a z zero ds o =
     let rs = opRules ds o in
-    rw (step-text e ds o k, defaults-text e ds o k, rules-append rs (defaults rs))
+    rw (op-text ds o, defaults-text ds o, rules-append rs (defaults rs))
     (ap (λ (l : Bytes). l ++ ascii "\n") (append-assoc (initText a z) (rulesText rs) (rulesText (defaults rs))))
-line-text a z (suc i) e ds o k = rw (step-text e ds o k)
+line-text a z (suc i) ds o = rw (op-text ds o)
 
-run-text : (a z : ℕ) (e : BreakpadEncoder) (ds os : List Op) → Kept e ds → run a z (length ds) e os ≡ render true (linesFrom a z ds os)
+run-text : (a z : ℕ) (ds os : List Op) → run a z (length ds) (sum ds) (lastPair ds) os ≡ render true (linesFrom a z ds os)
 unfolding run linesFrom render
-run-text a z e ds [] k = refl
-run-text a z e ds (o ∷ os) k = rw (line-text a z (length ds) e ds o k, run-text a z (stepped e o) (o ∷ ds) os (kept-step e ds o k))
+run-text a z ds [] = refl
+run-text a z ds (o ∷ os) = rw (line-text a z (length ds) ds o, kept ds o .0, kept ds o .1, run-text a z (o ∷ ds) os)
 
 pub arm-entry-text : (last : Last) (ws : List ℕ) → armEntry last ws .text ≡ render true (armLines ws)
-unfolding armEntry armLines armText
+unfolding armEntry armLines armText sum lastPair
 arm-entry-text last ws = go (armJudged ws)
   where
-    go : (j : Judged) → comesTo j (run (word ws 0) (word ws 1) 0 startEncoder (ops ws)) last last .text ≡ render true (ifWritten j (linesFrom (word ws 0) (word ws 1) [] (ops ws)))
+    go : (j : Judged) → comesTo j (run (word ws 0) (word ws 1) 0 0 noPair (ops ws)) last last .text ≡ render true (ifWritten j (linesFrom (word ws 0) (word ws 1) [] (ops ws)))
     go (Refuse n) = render-none true
     go Skip = render-none true
-    go Write = run-text (word ws 0) (word ws 1) startEncoder [] (ops ws) kept-start
+    go Write = run-text (word ws 0) (word ws 1) [] (ops ws)
 
 -- ---- every line is well formed
 
@@ -310,22 +299,17 @@ two-ok p q =
     both (ruleOk (savedRule p)) (all ruleOk (savedRule q ∷ optional t (raRule q))) (saved-ok p)
     (both (ruleOk (savedRule q)) (all ruleOk (optional t (raRule q))) (saved-ok q) (optional-ok t (raRule q) (ra-ok q)))
 
+saves-ok : (s : Saves) → fine (savesRules s)
+unfolding savesRules
+saves-ok nothing = tt
+saves-ok (alone p) = both (ruleOk (savedRule p)) true (saved-ok p) tt
+saves-ok (paired p q) = two-ok p q
+
 op-ok : (ds : List Op) (o : Op) → fine (opRules ds o)
-unfolding opRules
-op-ok ds (AllocStack v) = both (ruleOk (cfaRule (sum ds + v))) true (cfa-ok (sum ds + v)) tt
-op-ok ds (SaveReg l r v) = both (ruleOk (savedRule (saved l r v (sum ds)))) true (saved-ok (saved l r v (sum ds))) tt
-op-ok ds (SaveRegPreindexed l r v) =
-    let p : Saved = saved l r 0 (sum ds + v) in
-    both (ruleOk (cfaRule (sum ds + v))) (all ruleOk (savedRule p ∷ [])) (cfa-ok (sum ds + v)) (both (ruleOk (savedRule p)) true (saved-ok p) tt)
-op-ok ds (SaveRegPair l r v) = two-ok (saved l r v (sum ds)) (above (saved l r v (sum ds)))
-op-ok ds (SaveRegPairPreindexed l r v) =
-    let p : Saved = saved l r 0 (sum ds + v) in
-    both (ruleOk (cfaRule (sum ds + v))) (all ruleOk (twoRules p (above p))) (cfa-ok (sum ds + v)) (two-ok p (above p))
-op-ok ds (SaveLrPair r v) = two-ok (saved 0 r v (sum ds)) (saved 0 30 (v + 8) (sum ds))
-op-ok ds SaveNext = two-ok (above (lastPair ds)) (above (above (lastPair ds)))
-op-ok ds Other = both (ruleOk (cfaRule (sum ds))) true (cfa-ok (sum ds)) tt
-op-ok ds End = tt
-op-ok ds Undecodable = tt
+op-ok ds o =
+    let c : Rule = cfaRule (sum ds + growthOf o) in
+    let s : Saves = saves (sum ds) (lastPair ds) o in
+    rw (op-rules ds o) (all-append ruleOk (optional (writesCfa o) c) (savesRules s) (optional-ok (writesCfa o) c (cfa-ok (sum ds + growthOf o))) (saves-ok s))
 
 line-ok : (a z i : ℕ) (rs : List Rule) → fine rs → T (lineOk (armLine a z i rs))
 unfolding armLine defaults

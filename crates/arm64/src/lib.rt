@@ -28,8 +28,9 @@ ghost use Rattle.text.specs.Text.{Put, ascii};
 ghost use Rattle.lines.specs.Rules.{ruleName};
 ghost use Rattle.lines.specs.Reach.{inside};
 ghost use Rattle.entry.specs.Entry.{Processed};
-ghost use Rattle.arm64.specs.Arm64.{opOf, width, above, startEncoder, began, grown, single, double, remembered, pair, stepped, valueOf, placeText, savedText, cfaText, raText, given, stepText, firstLine, laterLine, nthLine, run, savedFits, fits, inReach, opFits, armLayout, undecodable, armJudged, armEntry};
-ghost use Rattle.arm64.specs.Index.{opAt, opsRun, counted, Small, Printable};
+ghost use Rattle.arm64.specs.Arm64.{opOf, width, above, noPair, valueOf, placeText, savedText, cfaText, raText, given, defaultsText, firstLine, laterLine, nthLine, run, inReach, opFits, armLayout, undecodable, armJudged, armEntry};
+ghost use Rattle.arm64.specs.Encoder.{startEncoder, began, grown, single, double, remembered, pair, stepped, stepText, flagFits, lineFits, Near, Small};
+ghost use Rattle.arm64.specs.Index.{opAt, opsRun, counted};
 
 // An unwind operation with the words that it uses: letter, register and value where it saves.
 pub enum Op {
@@ -339,7 +340,7 @@ fn is_inside(a: u64, b: u64) -> bool
 }
 
 fn saved_fits(saved: bool, p: Saved) -> bool
-    ensures { λ r. ⌜ r ≡ savedFits saved p ⌝ }
+    ensures { λ r. ⌜ r ≡ flagFits saved p ⌝ }
 {
     if saved {
         return both(is_inside(p.a, p.b), p.register <= 255);
@@ -349,7 +350,7 @@ fn saved_fits(saved: bool, p: Saved) -> bool
 
 // What an operation that uses `value` has left in the encoder, on a line at `address`.
 fn fits_line(address: u64, value: u32, e: BreakpadEncoder) -> bool
-    ensures { λ r. ⌜ r ≡ fits address value e ⌝ }
+    ensures { λ r. ⌜ r ≡ lineFits address value e ⌝ }
 {
     if REACH <= value as u64 {
         return false;
@@ -369,7 +370,7 @@ fn fits_line(address: u64, value: u32, e: BreakpadEncoder) -> bool
 // Whether every number of the first n operations, run backwards, is in reach.
 fn reaches(body: &[u32], n: usize) -> bool
     requires { ⌜ n ≤ 1024 ⌝ }
-    ensures { λ r. ⌜ r ≡ inReach (getD (now (body .entry)) 0 0) 0 startEncoder (opsRun (now (body .entry)) 3 n) ⌝ }
+    ensures { λ r. ⌜ r ≡ inReach (getD (now (body .entry)) 0 0) 0 0 noPair (opsRun (now (body .entry)) 3 n) ⌝ }
 {
     let address = word(body, 0) as u64;
     let mut e = BreakpadEncoder::new();
@@ -401,7 +402,7 @@ fn put_saved(out: &mut [u8], at: usize, name: Name, a: u64, b: u64) -> usize
 
 // A register where it is saved; nothing where none is.
 fn put_register(out: &mut [u8], at: usize, saved: bool, p: Saved) -> usize
-    requires { ⌜ (p .register < 2 ^ 32) × (p .a < 2 ^ 63) × (p .b < 2 ^ 63) ⌝ }
+    requires { ⌜ Near p ⌝ }
     ensures { λ r. ⌜ Put (now (out .entry)) at (given saved (savedText p)) (now (out .exit)) r ⌝ }
 {
     if saved {
@@ -413,7 +414,7 @@ fn put_register(out: &mut [u8], at: usize, saved: bool, p: Saved) -> usize
 }
 
 fn put_ra(out: &mut [u8], at: usize, written: bool, p: Saved) -> usize
-    requires { ⌜ (p .a < 2 ^ 63) × (p .b < 2 ^ 63) ⌝ }
+    requires { ⌜ Near p ⌝ }
     ensures { λ r. ⌜ Put (now (out .entry)) at (given written (raText p)) (now (out .exit)) r ⌝ }
 {
     if written {
@@ -439,7 +440,7 @@ fn put_cfa(out: &mut [u8], at: usize, touched: bool, total: u64) -> usize
 
 // The rules of the operation just run.
 fn put_rules(out: &mut [u8], at: usize, e: BreakpadEncoder) -> usize
-    requires { ⌜ Printable e ⌝ }
+    requires { ⌜ Small e ⌝ }
     ensures { λ r. ⌜ Put (now (out .entry)) at (stepText e) (now (out .exit)) r ⌝ }
 {
     let p = put_cfa(out, at, e.cfa_touched, e.stack_size);
@@ -474,8 +475,8 @@ fn put_default_ra(out: &mut [u8], at: usize, written: bool) -> usize
 
 // The function's first line, with what is taken for granted where it is not written.
 fn put_first_line(out: &mut [u8], at: usize, address: u32, size: u32, e: BreakpadEncoder) -> usize
-    requires { ⌜ Printable e ⌝ }
-    ensures { λ r. ⌜ Put (now (out .entry)) at (firstLine address size e) (now (out .exit)) r ⌝ }
+    requires { ⌜ Small e ⌝ }
+    ensures { λ r. ⌜ Put (now (out .entry)) at (firstLine address size (stepText e) (defaultsText (e .«cfa_touched») (e .«ra_written»))) (now (out .exit)) r ⌝ }
 {
     let p = put_init(out, at, address as u64, size as u64);
     let p = put_rules(out, p, e);
@@ -485,8 +486,8 @@ fn put_first_line(out: &mut [u8], at: usize, address: u32, size: u32, e: Breakpa
 }
 
 fn put_later_line(out: &mut [u8], at: usize, address: u64, e: BreakpadEncoder) -> usize
-    requires { ⌜ Printable e ⌝ }
-    ensures { λ r. ⌜ Put (now (out .entry)) at (laterLine address e) (now (out .exit)) r ⌝ }
+    requires { ⌜ Small e ⌝ }
+    ensures { λ r. ⌜ Put (now (out .entry)) at (laterLine address (stepText e)) (now (out .exit)) r ⌝ }
 {
     let p = put_later(out, at, true, address);
     let p = put_rules(out, p, e);
@@ -494,8 +495,8 @@ fn put_later_line(out: &mut [u8], at: usize, address: u64, e: BreakpadEncoder) -
 }
 
 fn put_line(out: &mut [u8], at: usize, address: u32, size: u32, i: u64, e: BreakpadEncoder) -> usize
-    requires { ⌜ (i ≤ 1024) × Printable e ⌝ }
-    ensures { λ r. ⌜ Put (now (out .entry)) at (nthLine address size i e) (now (out .exit)) r ⌝ }
+    requires { ⌜ (i ≤ 1024) × Small e ⌝ }
+    ensures { λ r. ⌜ Put (now (out .entry)) at (nthLine address size i (stepText e) (defaultsText (e .«cfa_touched») (e .«ra_written»))) (now (out .exit)) r ⌝ }
 {
     if i == 0 {
         return put_first_line(out, at, address, size, e);
@@ -505,8 +506,8 @@ fn put_line(out: &mut [u8], at: usize, address: u32, size: u32, i: u64, e: Break
 
 // The lines of the first n operations, run backwards.
 fn put_lines(out: &mut [u8], at: usize, body: &[u32], n: usize) -> usize
-    requires { ⌜ (n ≤ 1024) × T (inReach (getD (now body) 0 0) 0 startEncoder (opsRun (now body) 3 n)) ⌝ }
-    ensures { λ r. ⌜ Put (now (out .entry)) at (run (getD (now (body .entry)) 0 0) (getD (now (body .entry)) 1 0) 0 startEncoder (opsRun (now (body .entry)) 3 n)) (now (out .exit)) r ⌝ }
+    requires { ⌜ (n ≤ 1024) × T (inReach (getD (now body) 0 0) 0 0 noPair (opsRun (now body) 3 n)) ⌝ }
+    ensures { λ r. ⌜ Put (now (out .entry)) at (run (getD (now (body .entry)) 0 0) (getD (now (body .entry)) 1 0) 0 0 noPair (opsRun (now (body .entry)) 3 n)) (now (out .exit)) r ⌝ }
 {
     let address = word(body, 0);
     let size = word(body, 1);

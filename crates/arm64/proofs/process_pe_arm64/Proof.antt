@@ -4,7 +4,7 @@ use mathlib.Core.List.{List}
 use Rattle.text.specs.Text.Laws.{put-none, put-as}
 use Rattle.arm64.specs.declared.Op.{Op}
 use Rattle.entry.specs.Entry.{word}
-use Rattle.arm64.specs.Arm64.{opCount, startEncoder, run, armText, armEntry}
+use Rattle.arm64.specs.Arm64.{opCount, noPair, run, armText, armEntry}
 use Rattle.arm64.specs.Index.{opsRun, ops-run, first-end-few, layout-few, written}
 use native.Mathlib.Omega.{arith}
 use borrow.Author.Needs.{needs}
@@ -49,7 +49,7 @@ returns-3 c =
     rw (← c7 .judge .ensures, c5 .enum-told2 .given .1) (record {
       number-is = refl;
       next-is = refl;
-      put = put-as (c .before .before .put-lines .ensures) (ap (λ (os : List Op). run (word ws 0) (word ws 1) 0 startEncoder os) (ap (opsRun ws 3) (c .before .before .before .first-end .ensures) ∙ sym (ops-run ws)));
+      put = put-as (c .before .before .put-lines .ensures) (ap (λ (os : List Op). run (word ws 0) (word ws 1) 0 0 noPair os) (ap (opsRun ws 3) (c .before .before .before .first-end .ensures) ∙ sym (ops-run ws)));
     })
 
 pub process-pe-arm64-spec : {M : Type 1} → statement M

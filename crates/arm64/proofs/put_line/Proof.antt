@@ -1,17 +1,18 @@
 -- `put_line`: by whether it is line 0.
 use mathlib.Core.Path.{_≡_, refl}
+use mathlib.Core.List.{List}
 use Prim.Native.Nat.{ℕ, zero, suc, _+_, _*_}
 use Rattle.text.specs.Text.Laws.{put-as}
-use Rattle.arm64.specs.declared.BreakpadEncoder.{BreakpadEncoder}
-use Rattle.arm64.specs.Arm64.{laterLine, nthLine}
+use Rattle.arm64.specs.Arm64.{defaultsText, laterLine, nthLine}
+use Rattle.arm64.specs.Encoder.{stepText}
 use borrow.Author.Needs.{needs}
 use Rattle.arm64.proofs.put_line.Statement.{statement}
 use Rattle.arm64.proofs.put_line.Tie as tie
 
-later : (a z i : ℕ) (e : BreakpadEncoder) → (i ≡ 0 → ⊥) → laterLine (a + 4 * i) e ≡ nthLine a z i e
+later : (a z i : ℕ) (rules defaults : List ℕ) → (i ≡ 0 → ⊥) → laterLine (a + 4 * i) rules ≡ nthLine a z i rules defaults
 unfolding nthLine
-later a z zero e h = absurd (h refl)
-later a z (suc i) e h = refl
+later a z zero rules defaults h = absurd (h refl)
+later a z (suc i) rules defaults h = refl
 
 put-first-line-requires : tie.Need-put-first-line-requires
 put-first-line-requires c κs = search needs
@@ -39,7 +40,7 @@ returns-2 : tie.Need-returns-2
 returns-2 c =
     let c4 = c .before .before .before .before in
     let a = c4 .before .before .args in
-    put-as (c .before .before .put-later-line .ensures) (later (a .address) (a .size) (a .i) (a .e) (c4 .if1 .left))
+    put-as (c .before .before .put-later-line .ensures) (later (a .address) (a .size) (a .i) (stepText (a .e)) (defaultsText (a .e .«cfa_touched») (a .e .«ra_written»)) (c4 .if1 .left))
 
 pub put-line-spec : {M : Type 1} → statement M
 put-line-spec =

@@ -1,16 +1,17 @@
 -- `put_lines`: what is left to put is the lines of the operations left (`LinesLeft`).
 use Rattle.text.specs.Text.Laws.{left-all, put-length}
 use Rattle.entry.specs.Entry.{word}
-use Rattle.arm64.specs.Arm64.{startEncoder, run}
-use Rattle.arm64.specs.Index.{opsRun, small-start}
-use Rattle.arm64.proofs.Loops.{LinesLeft, line-printable, line-turn, lines-done}
+use Rattle.arm64.specs.Arm64.{noPair, run}
+use Rattle.arm64.specs.Encoder.{encoder, startEncoder, small-start}
+use Rattle.arm64.specs.Index.{opsRun}
+use Rattle.arm64.proofs.Loops.{LinesLeft, line-small, line-turn, lines-done}
 use borrow.Author.Needs.{needs}
 use native.Mathlib.Omega.{arith}
 use Rattle.arm64.proofs.put_lines.Statement.{statement}
 use Rattle.arm64.proofs.put_lines.Tie as tie
 
 abbrev Inv-loop : tie.InvT-loop
-Inv-loop out₀ at body n address size e₀ p₀ i₀ k₀ out e p i k = LinesLeft body (word body 0) (word body 1) out₀ at (run (word body 0) (word body 1) 0 startEncoder (opsRun body 3 n)) out p e i k
+Inv-loop out₀ at body n address size e₀ p₀ i₀ k₀ out e p i k = LinesLeft body (word body 0) (word body 1) out₀ at (run (word body 0) (word body 1) 0 0 noPair (opsRun body 3 n)) out p e i k
 
 abbrev μ-loop : tie.MeasureT-loop
 μ-loop out₀ at body n address size e₀ p₀ i₀ k₀ out e p i k = k
@@ -25,6 +26,7 @@ new-requires : tie.Need-new-requires Inv-loop μ-loop
 new-requires c κs = search needs
 
 loop-holds : tie.Need-loop-holds Inv-loop μ-loop
+unfolding encoder startEncoder
 loop-holds c = rw (c .new .ensures) (record { small = small-start; few = omega arith; reach = c .before .before .before .before .before .pre .1; text = left-all (omega arith) (omega arith) })
 
 sub-k : tie.Need-sub-k Inv-loop μ-loop
@@ -43,7 +45,7 @@ step-requires : tie.Need-step-requires Inv-loop μ-loop
 step-requires c κs = c .before .before .loop .inv .small
 
 put-line-requires : tie.Need-put-line-requires Inv-loop μ-loop
-put-line-requires c κs = (omega (arith, c .before .before .before .before .loop .inv .few), rw (c .before .step .ensures, c .before .before .op-at .ensures) (line-printable (c .before .before .before .before .loop .inv) (search needs)))
+put-line-requires c κs = (omega (arith, c .before .before .before .before .loop .inv .few), rw (c .before .step .ensures, c .before .before .op-at .ensures) (line-small (c .before .before .before .before .loop .inv) (search needs)))
 
 add-i : tie.Need-add-i Inv-loop μ-loop
 add-i c = search needs

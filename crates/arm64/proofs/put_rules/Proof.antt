@@ -1,6 +1,6 @@
 -- `put_rules`: four parts, joined.
 use Rattle.text.specs.Text.Laws.{_⨾_}
-use Rattle.arm64.specs.Arm64.{stepText}
+use Rattle.arm64.specs.Encoder.{stepText}
 use borrow.Author.Needs.{needs}
 use Rattle.arm64.proofs.put_rules.Statement.{statement}
 use Rattle.arm64.proofs.put_rules.Tie as tie

@@ -2,8 +2,9 @@
 use mathlib.Core.Path.{refl, sym, _∙_}
 use borrow.Author.Tests.{not-true, not-false}
 use Rattle.entry.specs.Entry.{word}
-use Rattle.arm64.specs.Arm64.{startEncoder, inReach}
-use Rattle.arm64.specs.Index.{opsRun, small-start}
+use Rattle.arm64.specs.Arm64.{noPair, inReach}
+use Rattle.arm64.specs.Encoder.{encoder, startEncoder, small-start}
+use Rattle.arm64.specs.Index.{opsRun}
 use Rattle.arm64.proofs.Loops.{ScanLeft, scan-stop, scan-turn, scan-done}
 use borrow.Author.Needs.{needs}
 use native.Mathlib.Omega.{arith}
@@ -11,7 +12,7 @@ use Rattle.arm64.proofs.reaches.Statement.{statement}
 use Rattle.arm64.proofs.reaches.Tie as tie
 
 abbrev Inv-loop : tie.InvT-loop
-Inv-loop body n address e₀ i₀ k₀ e i k = ScanLeft body address (inReach (word body 0) 0 startEncoder (opsRun body 3 n)) e i k
+Inv-loop body n address e₀ i₀ k₀ e i k = ScanLeft body address (inReach (word body 0) 0 0 noPair (opsRun body 3 n)) e i k
 
 abbrev μ-loop : tie.MeasureT-loop
 μ-loop body n address e₀ i₀ k₀ e i k = k
@@ -26,6 +27,7 @@ new-requires : tie.Need-new-requires Inv-loop μ-loop
 new-requires c κs = search needs
 
 loop-holds : tie.Need-loop-holds Inv-loop μ-loop
+unfolding encoder startEncoder
 loop-holds c = rw (c .before .word .ensures, c .new .ensures) (record { small = small-start; few = omega arith; rest = refl })
 
 sub-k : tie.Need-sub-k Inv-loop μ-loop

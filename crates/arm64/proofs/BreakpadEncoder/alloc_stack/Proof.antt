@@ -1,5 +1,5 @@
 -- `alloc_stack`: as it stands.
-use Rattle.arm64.specs.Arm64.{grown}
+use Rattle.arm64.specs.Encoder.{grown}
 use borrow.Author.Needs.{needs}
 use Rattle.arm64.proofs.BreakpadEncoder.alloc_stack.Statement.{statement}
 use Rattle.arm64.proofs.BreakpadEncoder.alloc_stack.Tie as tie

@@ -1,11 +1,11 @@
 -- `begin_instruction`: as it stands.
-use Rattle.arm64.specs.Arm64.{began}
+use Rattle.arm64.specs.Encoder.{Encoder·open}
 use borrow.Author.Needs.{needs}
 use Rattle.arm64.proofs.BreakpadEncoder.begin_instruction.Statement.{statement}
 use Rattle.arm64.proofs.BreakpadEncoder.begin_instruction.Tie as tie
 
 returns : tie.Need-returns
-unfolding began
+unfolding Encoder·open
 returns c = search needs
 
 pub begin-instruction-spec : {M : Type 1} → statement M

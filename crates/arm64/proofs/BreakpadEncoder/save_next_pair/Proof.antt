@@ -1,7 +1,7 @@
 -- `save_next_pair`: by what its callees ensure; the last pair is small.
 use mathlib.Core.Path.{ap, _∙_}
-use Rattle.arm64.specs.Arm64.{above, pair}
-use Rattle.arm64.specs.Index.{width-small}
+use Rattle.arm64.specs.Arm64.{above}
+use Rattle.arm64.specs.Encoder.{pair, width-small}
 use Rattle.arm64.specs.declared.Saved.{Saved}
 use native.Mathlib.Omega.{arith}
 use borrow.Author.Needs.{needs}

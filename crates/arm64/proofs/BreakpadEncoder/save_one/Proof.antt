@@ -1,5 +1,5 @@
 -- `save_one`: as it stands.
-use Rattle.arm64.specs.Arm64.{single}
+use Rattle.arm64.specs.Encoder.{single}
 use borrow.Author.Needs.{needs}
 use Rattle.arm64.proofs.BreakpadEncoder.save_one.Statement.{statement}
 use Rattle.arm64.proofs.BreakpadEncoder.save_one.Tie as tie

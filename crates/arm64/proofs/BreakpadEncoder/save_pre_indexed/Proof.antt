@@ -1,5 +1,5 @@
 -- `save_pre_indexed`: by what its callees ensure.
-use Rattle.arm64.specs.Arm64.{single}
+use Rattle.arm64.specs.Encoder.{single}
 use borrow.Author.Needs.{needs}
 use Rattle.arm64.proofs.BreakpadEncoder.save_pre_indexed.Statement.{statement}
 use Rattle.arm64.proofs.BreakpadEncoder.save_pre_indexed.Tie as tie

@@ -1,5 +1,5 @@
 -- `save_pre_indexed_pair`: by what its callees ensure.
-use Rattle.arm64.specs.Arm64.{double, remembered}
+use Rattle.arm64.specs.Encoder.{double, remembered}
 use borrow.Author.Needs.{needs}
 use Rattle.arm64.proofs.BreakpadEncoder.save_pre_indexed_pair.Statement.{statement}
 use Rattle.arm64.proofs.BreakpadEncoder.save_pre_indexed_pair.Tie as tie

@@ -1,5 +1,5 @@
 -- `save_two`: the test for x30 is the definition's.
-use Rattle.arm64.specs.Arm64.{double}
+use Rattle.arm64.specs.Encoder.{double}
 use borrow.Author.Needs.{needs}
 use Rattle.arm64.proofs.BreakpadEncoder.save_two.Statement.{statement}
 use Rattle.arm64.proofs.BreakpadEncoder.save_two.Tie as tie
