@@ -19,7 +19,7 @@ use Rattle.entry.specs.Entry.{word}
 use Rattle.dwarf.specs.Dwarf.{wide, ruleAt, rulesFrom, ruleCount, nextRow, rowAt, rowsFrom, rowCount, rows, lastEnd, anyBelow, registers, distinct, rulesOf, member, once, rowFits, rowsFit, dwarfLayout, Seen, differs, remember, any, ruleBytes, seenAfter, ranRules, ranMoved, ranRow, ranRows, CfaSeen, noCfa, lastCfa, nothingSeen}
 use Rattle.dwarf.proofs.Store.{newly-few}
 use Rattle.dwarf.specs.Cache.{placeOf, lookup, newly, fresh, cfaOf, Known, Scanned, After}
-use Rattle.dwarf.specs.Index.{rules-step, rows-step, rows-fit-step, row-few, row-bound, layout-few, layout-rows, layout-distinct, fresh-append, fresh-distinct}
+use Rattle.dwarf.specs.Index.{rules-step, rows-step, rows-fit-step, row-few, row-bound, layout-few, layout-rows, layout-distinct, fresh-append, fresh-distinct, rowRules, once-rest, fresh-free}
 
 -- ---- over rows: m are left, from word a on
 
@@ -195,32 +195,48 @@ module _ {ws : List ℕ} {f ra : ℕ} {already : Bool} {c₀ : RuleCache} {from 
     moves = sym (or-false moved) ∙ (rw z at (l .moves));
   }
 
--- ---- the second pass: what is left to write
+-- ---- the second pass: of a text t the rules left, k from word a on, are left to write, each against the rules c before the row
 
-pub record PutLeft (ws : List ℕ) (f ra : ℕ) (c₀ : RuleCache) (from n : ℕ) (d : List ℕ) (at : ℕ) (d₁ : List ℕ) (c : RuleCache) (p a k : ℕ) : Type 0 where
-  pub rules : RulesLeft ws c₀ from n c a k
-  pub text : Left d at (ranRules f ra (lookup c₀) (rulesFrom ws n from)) d₁ p (ranRules f ra (lookup c) (rulesFrom ws k a))
+pub record PutLeft (ws : List ℕ) (f ra : ℕ) (c : RuleCache) (from n : ℕ) (d : List ℕ) (at : ℕ) (t d₁ : List ℕ) (p a k : ℕ) : Type 0 where
+  pub place : a + 4 * k ≡ from + 4 * n
+  pub single : T (once (registers (rulesFrom ws k a)))
+  pub room : c .count + fresh (lookup c) (rulesFrom ws k a) ≤ 64
+  pub text : Left d at t d₁ p (rowRules f ra (lookup c) (rulesFrom ws k a))
 
-module _ {ws : List ℕ} {f ra : ℕ} {c₀ : RuleCache} {from n : ℕ} {d : List ℕ} {at : ℕ} {d₁ : List ℕ} {c : RuleCache} {p a k : ℕ} where
-  next-text : PutLeft ws f ra c₀ from n d at d₁ c p a k → 0 < k
-      → Left d at (ranRules f ra (lookup c₀) (rulesFrom ws n from)) d₁ p
-      (cond (differs (lookup c (ruleAt ws a .register)) (ruleAt ws a .kind) (ruleAt ws a .value)) (ruleBytes f ra (ruleAt ws a)) []
-      ++ ranRules f ra (remember (lookup c) (ruleAt ws a)) (rulesFrom ws (k - 1) (a + 4)))
-  unfolding ranRules
+module _ {ws : List ℕ} {f ra : ℕ} {c : RuleCache} {from n : ℕ} {d : List ℕ} {at : ℕ} {t d₁ : List ℕ} {p a k : ℕ} where
+  next-once : PutLeft ws f ra c from n d at t d₁ p a k → 0 < k → T (once (registers (ruleAt ws a ∷ rulesFrom ws (k - 1) (a + 4))))
+  next-once l h = rw (rules-step ws k a h) at (l .single)
+
+  next-room : PutLeft ws f ra c from n d at t d₁ p a k → 0 < k
+      → c .count + (newly (lookup c (ruleAt ws a .register)) + fresh (remember (lookup c) (ruleAt ws a)) (rulesFrom ws (k - 1) (a + 4))) ≤ 64
+  unfolding fresh
+  next-room l h = rw (rules-step ws k a h) at (l .room)
+
+  next-text : PutLeft ws f ra c from n d at t d₁ p a k → 0 < k
+      → Left d at t d₁ p (cond (differs (lookup c (ruleAt ws a .register)) (ruleAt ws a .kind) (ruleAt ws a .value)) (ruleBytes f ra (ruleAt ws a)) []
+      ++ rowRules f ra (lookup c) (rulesFrom ws (k - 1) (a + 4)))
+  unfolding rowRules
   next-text l h = rw (rules-step ws k a h) at (l .text)
 
-  pub put-turn : {c₁ : RuleCache} {x : RegisterRule} {d₂ : List ℕ} {q : ℕ} → PutLeft ws f ra c₀ from n d at d₁ c p a k → 0 < k → x ≡ ruleAt ws a
-      → c₀ .count + fresh (lookup c₀) (rulesFrom ws n from) ≤ 64
-      → c₁ .count ≡ c .count + newly (lookup c (x .register)) → lookup c₁ ≡ remember (lookup c) x
+  pub put-room : {x : RegisterRule} → PutLeft ws f ra c from n d at t d₁ p a k → 0 < k → x ≡ ruleAt ws a → c .count + newly (lookup c (x .register)) ≤ 64
+  put-room {x} l h i = rw i (omega (arith, next-room l h))
+
+  pub put-place : {x : RegisterRule} {q : ℕ} → PutLeft ws f ra c from n d at t d₁ p a k → 0 < k → x ≡ ruleAt ws a
+      → length (c .register) ≡ 64 → q ≡ placeOf c (x .register) → q < 64
+  put-place {x} l h i e g = omega (arith, newly-few c (x .register) (omega (arith, l .room)) (put-room l h i))
+
+  pub put-turn : {x : RegisterRule} {d₂ : List ℕ} {q : ℕ} → PutLeft ws f ra c from n d at t d₁ p a k → 0 < k → x ≡ ruleAt ws a
       → Put d₁ p (cond (differs (lookup c (x .register)) (x .kind) (x .value)) (ruleBytes f ra x) []) d₂ q
-      → PutLeft ws f ra c₀ from n d at d₂ c₁ q (a + 4) (k - 1)
-  put-turn {c₁} {x} {d₂} {q} l h i room e s y = record {
-    rules = rules-turn (l .rules) h i (rules-room (l .rules) h i room) e s;
-    text = rw (rw i at s) (left-put (next-text l h) (rw i at y));
+      → PutLeft ws f ra c from n d at t d₂ q (a + 4) (k - 1)
+  put-turn {x} {d₂} {q} l h i y = record {
+    place = omega (arith, l .place);
+    single = once-rest (ruleAt ws a) (rulesFrom ws (k - 1) (a + 4)) (next-once l h);
+    room = omega (arith, next-room l h, fresh-free (lookup c) (ruleAt ws a) (rulesFrom ws (k - 1) (a + 4)) (next-once l h));
+    text = left-put (next-text l h) (rw i at y);
   }
 
-  pub put-done : PutLeft ws f ra c₀ from n d at d₁ c p a k → k ≤ 0 → Put d at (ranRules f ra (lookup c₀) (rulesFrom ws n from)) d₁ p
-  unfolding rulesFrom ranRules
+  pub put-done : PutLeft ws f ra c from n d at t d₁ p a k → k ≤ 0 → Put d at t d₁ p
+  unfolding rulesFrom rowRules
   put-done l h = let z : k ≡ 0 = omega arith in left-none (rw z at (l .text))
 
 -- ---- over all rows: the registers met, and the lines

@@ -2,16 +2,16 @@
 use mathlib.Core.Path.{_≡_, refl, sym, ap}
 use Prim.Native.Nat.{ℕ, zero, suc, _+_, _-_, _*_, _≤_, _<_}
 use native.Mathlib.Omega.{arith}
-use mathlib.Core.Bool.{Bool, true, false, cond, _&&_, _||_}
+use mathlib.Core.Bool.{Bool, true, false, not, cond, _&&_, _||_}
 use mathlib.Core.List.{List, [], _∷_, _++_}
 use lib.ListN.{length, length-append}
 use lib.Dec.{T, ltb, leb, eqb, leb→le, eqb→eq}
-use borrow.Author.Tests.{le-leb}
-use Rattle.text.specs.Tests.{and-l, and-r, one-less}
+use borrow.Author.Tests.{le-leb, ne-eqb, eqb-false}
+use Rattle.text.specs.Tests.{is-false, and-l, and-r, one-less}
 use Rattle.entry.specs.declared.Judged.the-variants.{Write}
 use Rattle.dwarf.specs.declared.RegisterRule.{RegisterRule}
 use Rattle.entry.specs.Entry.{word, only-written}
-use Rattle.dwarf.specs.Dwarf.{ruleAt, rulesFrom, ruleCount, nextRow, rowAt, rowsFrom, rowCount, rows, wide, firstStart, registers, member, distinct, ruleFits, rulesFit, cfaFits, rowFits, rowsFit, rulesOf, headFits, dwarfLayout, dwarfSkipped, dwarfReach, dwarfJudged, Seen, seen, remember, seenAfter, nothingSeen}
+use Rattle.dwarf.specs.Dwarf.{ruleAt, rulesFrom, ruleCount, nextRow, rowAt, rowsFrom, rowCount, rows, wide, firstStart, registers, member, once, distinct, ruleFits, rulesFit, cfaFits, rowFits, rowsFit, rulesOf, headFits, dwarfLayout, dwarfSkipped, dwarfReach, dwarfJudged, ruleBytes, Seen, seen, differs, remember, seenAfter, ranRules, nothingSeen}
 use Rattle.dwarf.specs.Cache.{newly, fresh}
 
 -- ---- steps
@@ -37,6 +37,10 @@ rows-fit-step ws m a h = ap (λ (k : ℕ). rowsFit ws k a) (one-less m h)
 pub row-few : (ws : List ℕ) (a : ℕ) → T (rowFits ws a) → ruleCount ws a ≤ 64
 unfolding rowFits
 row-few ws a h = leb→le (ruleCount ws a) 64 (and-r (cfaFits ws a) _ (and-l (cfaFits ws a && leb (ruleCount ws a) 64) _ h))
+
+pub row-once : (ws : List ℕ) (a : ℕ) → T (rowFits ws a) → T (once (registers (rowAt ws a .rules)))
+unfolding rowFits
+row-once ws a h = and-r (rulesFit ws (ruleCount ws a) (a + 9)) _ (and-r (cfaFits ws a && leb (ruleCount ws a) 64) _ h)
 
 -- rows have at most 265 words
 pub row-bound : (ws : List ℕ) (a m : ℕ) → T (rowFits ws a) → 0 < m → a + 265 * m ≤ 271367 → nextRow ws a + 265 * (m - 1) ≤ 271367
@@ -105,6 +109,66 @@ fresh-met c met (x ∷ xs) h = rw (h (x .register), fresh-met (remember c x) (x 
 pub fresh-distinct : (xs : List RegisterRule) → fresh nothingSeen xs ≡ distinct [] (registers xs)
 unfolding nothingSeen member
 fresh-distinct xs = fresh-met nothingSeen [] xs (λ q. refl)
+
+-- ---- a row that names no register twice: comparing as it goes is comparing with what was seen before it
+
+-- what a row's rules write, each against the rules c last seen before the row
+unfoldable pub rowRules : ℕ → ℕ → (ℕ → Seen) → List RegisterRule → List ℕ
+rowRules f ra c [] = []
+rowRules f ra c (x ∷ xs) = cond (differs (c (x .register)) (x .kind) (x .value)) (ruleBytes f ra x) [] ++ rowRules f ra c xs
+
+apart : (q r : ℕ) → eqb q r ≡ false → eqb r q ≡ false
+apart q r h = ne-eqb r q (λ e. eqb-false q r h (sym e))
+
+or-l : (a b : Bool) → (a || b) ≡ false → a ≡ false
+or-l true b h = h
+or-l false b h = refl
+
+or-r : (a b : Bool) → (a || b) ≡ false → b ≡ false
+or-r true b h = let z : _≡_ {A = ℕ} 0 1 = cc in absurd (omega arith)
+or-r false b h = h
+
+-- what holds of no rules, and of one more that is not x's register's, holds of a row that does not name that register
+pub free-ind : (x : RegisterRule) (P : List RegisterRule → Type 0) → P []
+    → ((y : RegisterRule) (ys : List RegisterRule) → eqb (x .register) (y .register) ≡ false → P ys → P (y ∷ ys))
+    → (xs : List RegisterRule) → member (x .register) (registers xs) ≡ false → P xs
+unfolding member registers
+free-ind x P none more [] h = none
+free-ind x P none more (y ∷ ys) h =
+    more y ys (apart (y .register) (x .register) (or-l (eqb (y .register) (x .register)) _ h))
+    (free-ind x P none more ys (or-r (eqb (y .register) (x .register)) _ h))
+
+row-free : (f ra : ℕ) (c : ℕ → Seen) (x : RegisterRule) (xs : List RegisterRule) → member (x .register) (registers xs) ≡ false
+    → rowRules f ra (remember c x) xs ≡ rowRules f ra c xs
+unfolding rowRules
+row-free f ra c x = free-ind x (λ ys. rowRules f ra (remember c x) ys ≡ rowRules f ra c ys) refl (λ y ys e i. rw (e, i))
+
+-- the first of a row's rules, and those behind it, which do not name its register
+pub once-free : (x : RegisterRule) (xs : List RegisterRule) → T (once (registers (x ∷ xs))) → member (x .register) (registers xs) ≡ false
+unfolding once registers
+once-free x xs h = is-false (member (x .register) (registers xs)) (and-l (not (member (x .register) (registers xs))) _ h)
+
+pub once-rest : (x : RegisterRule) (xs : List RegisterRule) → T (once (registers (x ∷ xs))) → T (once (registers xs))
+unfolding once registers
+once-rest x xs h = and-r (not (member (x .register) (registers xs))) _ h
+
+pub ran-row : (f ra : ℕ) (c : ℕ → Seen) (xs : List RegisterRule) → T (once (registers xs)) → ranRules f ra c xs ≡ rowRules f ra c xs
+unfolding ranRules rowRules
+ran-row f ra c [] h = refl
+ran-row f ra c (x ∷ xs) h = rw (ran-row f ra (remember c x) xs (once-rest x xs h), row-free f ra c x xs (once-free x xs h))
+
+-- they take as many places
+fresh-same : (x : RegisterRule) (c d : ℕ → Seen) (xs : List RegisterRule) → ((q : ℕ) → eqb (x .register) q ≡ false → c q ≡ d q)
+    → member (x .register) (registers xs) ≡ false → fresh c xs ≡ fresh d xs
+unfolding fresh member registers
+fresh-same x c d [] e h = refl
+fresh-same x c d (y ∷ ys) e h = rw (
+  e (y .register) (apart (y .register) (x .register) (or-l (eqb (y .register) (x .register)) _ h)),
+  fresh-same x (remember c y) (remember d y) ys (λ q k. ap (λ (s : Seen). cond (eqb (y .register) q) (seen (y .kind) (y .value)) s) (e q k)) (or-r (eqb (y .register) (x .register)) _ h),
+)
+
+pub fresh-free : (c : ℕ → Seen) (x : RegisterRule) (xs : List RegisterRule) → T (once (registers (x ∷ xs))) → fresh (remember c x) xs ≡ fresh c xs
+fresh-free c x xs h = fresh-same x (remember c x) c xs (λ q k. rw k) (once-free x xs h)
 
 -- ---- an entry that is written is laid out
 

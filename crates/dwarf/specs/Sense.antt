@@ -2,15 +2,13 @@
 -- The definitions use nothing of the text. Proved below: the text, in bytes as the rows are run, is these lines' text, and the lines are well formed.
 use mathlib.Core.Path.{_≡_, refl, sym, ap, ap₂, _∙_, fun-ext}
 use Prim.Native.Nat.{ℕ, zero, suc, _+_, _-_}
-use native.Mathlib.Omega.{arith}
 use mathlib.Core.Bool.{Bool, true, false, not, cond, _&&_, _||_}
 use mathlib.Core.List.{List, [], _∷_, _++_, append-assoc, append-nil}
 use lib.IntN.{ℤ}
 use lib.Dec.{T, eqb, leb}
-use borrow.Author.Tests.{ne-eqb, eqb-false}
 use Rattle.text.specs.Text.{ascii}
 use Rattle.text.specs.Digits.{hex, signed}
-use Rattle.text.specs.Tests.{is-false, all, all-append, and-l, and-r, both, either}
+use Rattle.text.specs.Tests.{all, all-append, and-l, and-r, both, either}
 use Rattle.names.specs.Names.{cfiName}
 use Rattle.lines.specs.Lines.{Bytes, Form, register, registerPlus, cfaPlus, atCfaPlus, Rule, rule, Line, init, later, cfa, formText, ruleText, rulesText, initText, laterText, lineText, render, nameOk, registerOk, formOk, ruleOk, lineOk}
 use Rattle.lines.specs.Lines.Laws.{rules-append, render-append, render-none}
@@ -25,8 +23,8 @@ use Rattle.dwarf.specs.declared.Fde.{Fde}
 -- the body, for the sense
 use Rattle.dwarf.specs.Dwarf.{twos, Row, rows, fdeOf, Seen, never, seen, differs, CfaSeen, noCfa, lastCfa, cfaDiffers, dwarfJudged}
 -- the text, for the proofs
-use Rattle.dwarf.specs.Dwarf.{rulesFrom, ruleCount, nextRow, rowsFrom, rowCount, registers, member, once, rulesFit, cfaFits, rowFits, rowsFit, any, formBytes, namedBytes, ruleBytes, cfaBytes, raBytes, defaultBytes, startBytes, lineBytes, rowBytes, remember, seenAfter, ranRules, ranMoved, ranOf, ranRow, ranRows, nothingSeen, dwarfText, dwarfEntry}
-use Rattle.dwarf.specs.Index.{layout-rows, written}
+use Rattle.dwarf.specs.Dwarf.{nextRow, rowAt, rowsFrom, rowCount, registers, member, once, rowFits, rowsFit, any, formBytes, namedBytes, ruleBytes, cfaBytes, raBytes, defaultBytes, startBytes, lineBytes, rowBytes, remember, seenAfter, ranMoved, ranOf, ranRow, ranRows, nothingSeen, dwarfText, dwarfEntry}
+use Rattle.dwarf.specs.Index.{layout-rows, rowRules, free-ind, once-free, once-rest, ran-row, row-once, written}
 
 -- ---- the last earlier row
 
@@ -258,48 +256,24 @@ row-text e start (rule n f ∷ rs) moved =
 
 -- ---- a row that names no register twice: comparing as it goes is comparing with what was said before it
 
-apart : (q r : ℕ) → eqb q r ≡ false → eqb r q ≡ false
-apart q r h = ne-eqb r q (λ e. eqb-false q r h (sym e))
-
-or-l : (a b : Bool) → (a || b) ≡ false → a ≡ false
-or-l true b h = h
-or-l false b h = refl
-
-or-r : (a b : Bool) → (a || b) ≡ false → b ≡ false
-or-r true b h = let z : _≡_ {A = ℕ} 0 1 = cc in absurd (omega arith)
-or-r false b h = h
-
-module _ (f ra : ℕ) (c : ℕ → Seen) (x : RegisterRule) where
-  new-free : (xs : List RegisterRule) → member (x .register) (registers xs) ≡ false → newRules f ra (remember c x) xs ≡ newRules f ra c xs
-  unfolding newRules member registers
-  new-free [] h = refl
-  new-free (y ∷ ys) h =
-      rw (apart (y .register) (x .register) (or-l (eqb (y .register) (x .register)) _ h), new-free ys (or-r (eqb (y .register) (x .register)) _ h))
-
-  ra-free : (xs : List RegisterRule) → member (x .register) (registers xs) ≡ false → raDiffers ra (remember c x) xs ≡ raDiffers ra c xs
-  unfolding raDiffers member registers
-  ra-free [] h = refl
-  ra-free (y ∷ ys) h =
-      rw (apart (y .register) (x .register) (or-l (eqb (y .register) (x .register)) _ h), ra-free ys (or-r (eqb (y .register) (x .register)) _ h))
-
-ran-new : (f ra : ℕ) (c : ℕ → Seen) (xs : List RegisterRule) → T (once (registers xs)) → rulesText (newRules f ra c xs) ≡ ranRules f ra c xs
-unfolding ranRules newRules once registers rulesText
-ran-new f ra c [] h = refl
-ran-new f ra c (x ∷ xs) h = rw (
+new-text : (f ra : ℕ) (c : ℕ → Seen) (xs : List RegisterRule) → rulesText (newRules f ra c xs) ≡ rowRules f ra c xs
+unfolding newRules rowRules rulesText
+new-text f ra c [] = refl
+new-text f ra c (x ∷ xs) = rw (
   rules-append (cond (differs (c (x .register)) (x .kind) (x .value)) (ruleRules f ra x) []) (newRules f ra c xs),
   cond-text (differs (c (x .register)) (x .kind) (x .value)) _ _ (rule-text f ra x),
-  ← ran-new f ra (remember c x) xs (and-r (not (member (x .register) (registers xs))) _ h),
-  new-free f ra c x xs (is-false (member (x .register) (registers xs)) (and-l (not (member (x .register) (registers xs))) _ h)),
+  new-text f ra c xs,
 )
 
+ra-free : (ra : ℕ) (c : ℕ → Seen) (x : RegisterRule) (xs : List RegisterRule) → member (x .register) (registers xs) ≡ false
+    → raDiffers ra (remember c x) xs ≡ raDiffers ra c xs
+unfolding raDiffers
+ra-free ra c x = free-ind x (λ ys. raDiffers ra (remember c x) ys ≡ raDiffers ra c ys) refl (λ y ys e i. rw (e, i))
+
 ran-ra : (ra : ℕ) (c : ℕ → Seen) (xs : List RegisterRule) → T (once (registers xs)) → ranMoved ra c xs ≡ raDiffers ra c xs
-unfolding ranMoved raDiffers once registers
+unfolding ranMoved raDiffers
 ran-ra ra c [] h = refl
-ran-ra ra c (x ∷ xs) h =
-    rw (
-      ran-ra ra (remember c x) xs (and-r (not (member (x .register) (registers xs))) _ h),
-      ra-free 0 ra c x xs (is-false (member (x .register) (registers xs)) (and-l (not (member (x .register) (registers xs))) _ h)),
-    )
+ran-ra ra c (x ∷ xs) h = rw (ran-ra ra (remember c x) xs (once-rest x xs h), ra-free ra c x xs (once-free x xs h))
 
 -- ---- all rows
 
@@ -316,7 +290,8 @@ row-ran e ds w h =
       row-text e (w .start) (cs ++ ns) (raDiffers (e .ra) (lastSaid ds) (w .rules)),
       rules-append cs ns,
       cond-text (cfaDiffers (cfaBefore ds) (w .cfa)) _ _ (cfa-text (e .family) (w .cfa)),
-      ran-new (e .family) (e .ra) (lastSaid ds) (w .rules) h,
+      new-text (e .family) (e .ra) (lastSaid ds) (w .rules),
+      ran-row (e .family) (e .ra) (lastSaid ds) (w .rules) h,
       ran-ra (e .ra) (lastSaid ds) (w .rules) h,
     )
 
@@ -330,12 +305,10 @@ rows-ran e ds s c (w ∷ ws) i j h =
     (fun-ext λ r. after-said (lastSaid ds) (w .rules) r ∙ sym (said-snoc ds w r)) (and-r (rowOnce w) _ h)))
 
 rows-once : (ws : List ℕ) (m a : ℕ) → T (rowsFit ws m a) → T (all rowOnce (rowsFrom ws m a))
-unfolding rowsFit rowsFrom rowFits
+unfolding rowsFit rowsFrom
 rows-once ws zero a h = tt
 rows-once ws (suc m) a h =
-    both (once (registers (rulesFrom ws (ruleCount ws a) (a + 9)))) _
-    (and-r (rulesFit ws (ruleCount ws a) (a + 9)) _ (and-r (cfaFits ws a && leb (ruleCount ws a) 64) _ (and-l (rowFits ws a) _ h)))
-    (rows-once ws m (nextRow ws a) (and-r (rowFits ws a) _ h))
+    both (rowOnce (rowAt ws a)) _ (row-once ws a (and-l (rowFits ws a) _ h)) (rows-once ws m (nextRow ws a) (and-r (rowFits ws a) _ h))
 
 -- the text as it is run is the rendering of the lines
 pub dwarf-text : (ws : List ℕ) → T (rowsFit ws (rowCount ws) 7) → dwarfText ws ≡ render false (dwarfRows (fdeOf ws) [] (rows ws))

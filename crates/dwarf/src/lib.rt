@@ -467,7 +467,7 @@ fn scan_rules(
     }
 }
 
-// The rules of a row that differ from those last seen.
+// The rules of a row that differ from those last seen. A row names no register twice, so those before it are the ones to compare with.
 fn put_rules(
     out: &mut [u8],
     at: usize,
@@ -478,23 +478,18 @@ fn put_rules(
     ra: u32,
     rules: RuleCache,
 ) -> usize
-    requires { ⌜ (from < 2 ^ 20) × (n ≤ 64) × (rules .count + fresh (lookup rules) (rulesFrom (now body) n from) ≤ 64) ⌝ }
+    requires { ⌜ (from < 2 ^ 20) × (n ≤ 64) × (rules .count + fresh (lookup rules) (rulesFrom (now body) n from) ≤ 64) × T (once (registers (rulesFrom (now body) n from))) ⌝ }
     ensures { λ r. ⌜ Put (now (out .entry)) at (ranRules family ra (lookup rules) (rulesFrom (now (body .entry)) n from)) (now (out .exit)) r ⌝ }
 {
-    let mut seen = rules;
+    let held = rules.count;
     let mut p = at;
     let mut a = from;
     let mut k = n;
     while 0 < k {
         let rule = rule_at(body, a);
-        let held = seen.count;
-        let q = place(&seen.register, held, rule.register);
-        let same = both(seen.kind[q] == rule.kind, seen.value[q] == rule.value);
+        let q = place(&rules.register, held, rule.register);
+        let same = both(rules.kind[q] == rule.kind, rules.value[q] == rule.value);
         let changed = !both(q < held, same);
-        seen.register[q] = rule.register;
-        seen.kind[q] = rule.kind;
-        seen.value[q] = rule.value;
-        seen.count = count_behind(held, q);
         p = write_register_rule(out, p, family, ra, rule, changed);
         a += 4;
         k -= 1;
@@ -533,7 +528,7 @@ fn put_line(
     written: bool,
     moved: bool,
 ) -> usize
-    requires { ⌜ (a < 2 ^ 19) × (getD (now body) (a + 8) 0 ≤ 64) × (state .rules .count + fresh (lookup (state .rules)) (rowAt (now body) a .rules) ≤ 64) ⌝ }
+    requires { ⌜ (a < 2 ^ 19) × (getD (now body) (a + 8) 0 ≤ 64) × (state .rules .count + fresh (lookup (state .rules)) (rowAt (now body) a .rules) ≤ 64) × T (once (registers (rowAt (now body) a .rules))) ⌝ }
     ensures { λ r. ⌜ Put (now (out .entry)) at (cond written (lineBytes fde (wide (now (body .entry)) a) (ranOf fde (cfaOf state) (lookup (state .rules)) (rowAt (now (body .entry)) a)) moved) []) (now (out .exit)) r ⌝ }
 {
     if !written {
@@ -558,7 +553,7 @@ pub struct Placed {
 
 // One row: its line, unless nothing is written, and what is last seen after it.
 fn put_row(out: &mut [u8], at: usize, body: &[u32], a: usize, fde: Fde, state: RowState) -> Placed
-    requires { ⌜ (a < 2 ^ 19) × (getD (now body) (a + 8) 0 ≤ 64) × (state .rules .count + fresh (lookup (state .rules)) (rowAt (now body) a .rules) ≤ 64) ⌝ }
+    requires { ⌜ (a < 2 ^ 19) × (getD (now body) (a + 8) 0 ≤ 64) × (state .rules .count + fresh (lookup (state .rules)) (rowAt (now body) a .rules) ≤ 64) × T (once (registers (rowAt (now body) a .rules))) ⌝ }
     ensures writes { λ r. ⌜ Put (now (out .entry)) at (ranRow fde (cfaOf state) (lookup (state .rules)) (rowAt (now (body .entry)) a)) (now (out .exit)) (r .at) ⌝ }
     ensures goes { λ r. ⌜ After state (rowAt (now (body .entry)) a) (r .state) ⌝ }
 {

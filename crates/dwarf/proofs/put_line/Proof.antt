@@ -38,7 +38,7 @@ add-put-rules : tie.Need-add-put-rules
 add-put-rules c = search needs
 
 put-rules-requires : tie.Need-put-rules-requires
-put-rules-requires c κs = (omega arith, omega (arith, c .before .before .before .before .before .before .before .before .before .before .before .before .before .before .before .before .pre .1, c .before .before .before .before .before .before .before .before .before .before .word .ensures), rw (c .before .before .before .before .before .before .before .before .before .before .word .ensures) (c .before .before .before .before .before .before .before .before .before .before .before .before .before .before .before .before .pre .2))
+put-rules-requires c κs = (omega arith, omega (arith, c .before .before .before .before .before .before .before .before .before .before .before .before .before .before .before .before .pre .1, c .before .before .before .before .before .before .before .before .before .before .word .ensures), rw (c .before .before .before .before .before .before .before .before .before .before .word .ensures) (c .before .before .before .before .before .before .before .before .before .before .before .before .before .before .before .before .pre .2), rw (c .before .before .before .before .before .before .before .before .before .before .word .ensures) (c .before .before .before .before .before .before .before .before .before .before .before .before .before .before .before .before .pre .3))
 
 put-default-requires : tie.Need-put-default-requires
 put-default-requires c κs = search needs

@@ -1,6 +1,7 @@
 -- `put_rows`: the loop of `RowsLeft`: the lines of the rows left are what is left to write.
 use Rattle.text.specs.Text.Laws.{put-length}
-use Rattle.dwarf.proofs.Loops.{RowsLeft, lines-all, row-room, lines-turn, lines-done, rest-few}
+use Rattle.dwarf.specs.Index.{row-once}
+use Rattle.dwarf.proofs.Loops.{RowsLeft, lines-all, row-room, lines-turn, lines-done, rest-fits, rest-few}
 use borrow.Author.Needs.{needs}
 use native.Mathlib.Omega.{arith}
 use Rattle.dwarf.proofs.put_rows.Statement.{statement}
@@ -25,7 +26,7 @@ loop-holds : tie.Need-loop-holds Inv-loop μ-loop
 loop-holds c = rw (c .word .ensures) (lines-all (c .before .before .before .before .pre) (c .before .start-state .ensures .0) (c .before .start-state .ensures .1) (c .before .start-state .ensures .2) (omega arith) (omega arith))
 
 put-row-requires : tie.Need-put-row-requires Inv-loop μ-loop
-put-row-requires c κs = (omega (arith, c .before .before .loop .inv .rest .bound), rest-few (c .before .before .loop .inv .rest) (search needs), row-room (c .before .before .loop .inv) (search needs))
+put-row-requires c κs = (omega (arith, c .before .before .loop .inv .rest .bound), rest-few (c .before .before .loop .inv .rest) (search needs), row-room (c .before .before .loop .inv) (search needs), row-once _ _ (rest-fits (c .before .before .loop .inv .rest) (search needs)))
 
 add-a : tie.Need-add-a Inv-loop μ-loop
 add-a c = record { fits = omega (arith, c .before .before .before .before .before .before .loop .inv .rest .bound) }
