@@ -13,7 +13,8 @@ use Rattle.lines.specs.Lines.{Line}
 use Rattle.book.specs.Book.{kind}
 use Rattle.translate.specs.declared.Returned.{Returned}
 use Rattle.translate.specs.Outcome.{Outcome, outcome, Called}
-use Rattle.translate.specs.Sense.{sense, textOf, same-text-same-sense}
+use Rattle.translate.specs.Sense.{sense, textOf}
+use Rattle.translate.specs.Sense.Laws.{same-text-same-sense}
 use Rattle.records.specs.declared.Compared.{Compared}
 use Rattle.records.specs.declared.Compared.the-variants.{Same, Different, OtherKind, Refused}
 
