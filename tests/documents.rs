@@ -1,6 +1,6 @@
 //! Holds the documents to the sources: every name in the tables of ARCHITECTURE.md and PROOFS.md stands in the code, the definitions or the proofs,
-//! every law in the file beside it; every public function has a row, every must-fail edit and planted fault is named, and none that is not there;
-//! every link leads to a file.
+//! every law in the file beside it, and every file that they name is there; every public function has a row, every must-fail edit and planted fault
+//! is named, and none that is not there; every link leads to a file.
 //!
 //! Run from the repository's root. The last line is 'N passed, M failed'.
 
@@ -76,6 +76,16 @@ fn known(t: &mut Tally, page: &str, text: &str, sources: &BTreeSet<String>) {
             for name in names(span).iter().filter(|n| n.parse::<u64>().is_err()) {
                 t.check(sources.contains(name), &format!("{page}: `{name}` (in `{span}`) stands nowhere in the sources"));
             }
+        }
+    }
+}
+
+/// Every file of a crate that the page names is there.
+fn paths(t: &mut Tally, page: &str, text: &str, crates: &BTreeMap<String, BTreeSet<String>>) {
+    let words = text.split(|c: char| c.is_whitespace() || "`(),;|".contains(c)).map(|w| w.trim_end_matches('.'));
+    for path in words.filter(|w| [".antt", ".rt", ".edit"].iter().any(|e| w.ends_with(e))) {
+        if path.split('/').next().is_some_and(|c| crates.contains_key(c)) {
+            t.check(Path::new("crates").join(path).exists(), &format!("{page}: there is no crates/{path}"));
         }
     }
 }
@@ -194,8 +204,11 @@ fn main() {
         crates.insert(name, edits);
     }
     let proofs = read("docs/PROOFS.md");
-    known(&mut t, "PROOFS.md", &proofs, &sources);
-    known(&mut t, "ARCHITECTURE.md", &read("docs/ARCHITECTURE.md"), &sources);
+    for page in ["PROOFS.md", "ARCHITECTURE.md", "DECISIONS.md"] {
+        let text = read(Path::new("docs").join(page));
+        known(&mut t, page, &text, &sources);
+        paths(&mut t, page, &text, &crates);
+    }
     laws(&mut t, &proofs);
     contracts(&mut t, &proofs, &crates);
     faults(&mut t, &read("docs/FAULTS.md"));

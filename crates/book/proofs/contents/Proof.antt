@@ -1,6 +1,7 @@
 -- `contents`: the header's test, then that of the bodies.
 use mathlib.Core.Path.{sym, _∙_}
-use Rattle.book.specs.Book.{contentsOk, header}
+use Rattle.book.specs.Book.{contentsOk}
+use Rattle.book.specs.Book.Laws.{header}
 use borrow.Author.Needs.{needs}
 use Rattle.book.proofs.contents.Statement.{statement}
 use Rattle.book.proofs.contents.Tie as tie

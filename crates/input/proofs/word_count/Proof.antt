@@ -1,6 +1,6 @@
 -- `word_count`: each test by its law.
 use native.Mathlib.Omega.{arith}
-use Rattle.input.specs.Words.{too-long, broken, whole}
+use Rattle.input.specs.Words.Laws.{too-long, broken, whole}
 use Rattle.input.proofs.word_count.Statement.{statement}
 use Rattle.input.proofs.word_count.Tie as tie
 

@@ -4,7 +4,8 @@ use native.Mathlib.Omega.{arith}
 use lib.ListN.{length, take}
 use lib.Seq.{length-take-le}
 use borrow.Author.Tests.{eq-eqb, ne-eqb}
-use Rattle.records.specs.Compare.{comparedOf, eq-answer}
+use Rattle.records.specs.Compare.{comparedOf}
+use Rattle.records.specs.Compare.Laws.{eq-answer}
 use borrow.Author.Needs.{needs}
 use Rattle.records.proofs.compare.Statement.{statement}
 use Rattle.records.proofs.compare.Tie as tie

@@ -1,5 +1,5 @@
 -- `same_records`: what the two calls and the comparison ensure (`compares`).
-use Rattle.records.specs.Compare.{compares}
+use Rattle.records.specs.Compare.Laws.{compares}
 use borrow.Author.Needs.{needs}
 use Rattle.records.proofs.same_records.Statement.{statement}
 use Rattle.records.proofs.same_records.Tie as tie

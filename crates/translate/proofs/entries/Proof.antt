@@ -3,7 +3,8 @@ use Prim.Native.Nat.{_+_, _≤_, _<_, _-_}
 use mathlib.Core.Path.{_≡_}
 use lib.ListN.{length}
 use Rattle.text.specs.Text.Laws.{put-length}
-use Rattle.book.specs.Book.{count, contents-header, body-within, part-is}
+use Rattle.book.specs.Book.{count}
+use Rattle.book.specs.Book.Laws.{contents-header, body-within, part-is}
 use Rattle.translate.specs.Outcome.{AREA}
 use Rattle.translate.specs.Outcome.Laws.{Going, going-none, going-more, going-stop, going-end}
 use borrow.Author.Needs.{needs}
