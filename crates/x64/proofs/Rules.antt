@@ -2,7 +2,7 @@
 use mathlib.Core.Path.{_≡_, ap}
 use Prim.Native.Nat.{ℕ}
 use mathlib.Core.List.{List, _++_, append-assoc}
-use lib.IntN.{ℤ, pos, subℕ}
+use lib.IntN.{pos, subℕ}
 use Rattle.text.specs.Text.{ascii, Put}
 use Rattle.text.specs.Text.Laws.{put-as, _⨾_}
 use Rattle.lines.specs.Lines.{Bytes, initText}

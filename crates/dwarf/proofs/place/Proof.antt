@@ -8,8 +8,6 @@ use borrow.Author.Needs.{needs}
 use native.Mathlib.Omega.{arith}
 use Rattle.dwarf.proofs.place.Statement.{statement}
 use Rattle.dwarf.proofs.place.Tie as tie
-use Rattle.dwarf.proofs.place.Reads as reads
-use Rattle.dwarf.proofs.place.Lts as lts
 
 abbrev Inv-loop : tie.InvT-loop
 Inv-loop registers n r i₀ i = (i ≤ n) × ((k : ℕ) → k < i → getD registers k 0 ≡ r → ⊥)

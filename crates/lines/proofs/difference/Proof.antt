@@ -6,8 +6,6 @@ use Rattle.lines.proofs.Ints.{mag-minus, sub-is}
 use borrow.Author.Needs.{needs}
 use Rattle.lines.proofs.difference.Statement.{statement}
 use Rattle.lines.proofs.difference.Tie as tie
-use Rattle.lines.proofs.difference.Reads as reads
-use Rattle.lines.proofs.difference.Lts as lts
 
 cast-result : tie.Need-cast-result
 cast-result c = search needs

@@ -3,11 +3,9 @@ use mathlib.Core.Path.{_≡_, refl, sym}
 use Prim.Native.Nat.{ℕ, _-_}
 use native.Mathlib.Omega.{arith}
 use mathlib.Core.Bool.{Bool}
-use mathlib.Core.List.{List, [], _∷_, _++_, append-nil, append-assoc}
+use mathlib.Core.List.{List, [], _∷_, _++_, append-assoc}
 use borrow.Author.Tests.{le-ltb}
 use lib.IntN.{pos, subℕ}
-use Rattle.text.specs.Text.{Put}
-use Rattle.text.specs.Text.Laws.{put-as}
 use Rattle.lines.specs.Lines.{Bytes, Rule, Line, ruleText, rulesText, lineText, render}
 
 pub rules-append : (rs qs : List Rule) → rulesText (rs ++ qs) ≡ rulesText rs ++ rulesText qs
@@ -27,10 +25,6 @@ render-none six = refl
 -- what stands in a row: a beginning, a register, a space, a number, the operators
 pub row : (i r s n o : Bytes) → i ++ (r ++ (s ++ n ++ o)) ≡ i ++ r ++ s ++ n ++ o
 row i r s n o = simp append-assoc
-
-pub put-one : {d d′ : List ℕ} {at r : ℕ} (q : Rule) → Put d at (ruleText q) d′ r → Put d at (rulesText (q ∷ [])) d′ r
-unfolding rulesText
-put-one q p = put-as p (sym (append-nil (ruleText q)))
 
 -- an amount that is no difference
 pub sub-none : (a : ℕ) → subℕ a 0 ≡ pos a

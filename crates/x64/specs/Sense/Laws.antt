@@ -123,9 +123,6 @@ unfolding raRules raText rulesText
 ra-text true = refl
 ra-text false = append-nil _ ∙ saved-rule (ascii ".ra") (pos 8)
 
-parts : (x y w : Bytes) → x ++ (y ++ w) ≡ x ++ y ++ w
-parts x y w = simp append-assoc
-
 rules-text : (os : List Op) → rulesText (x64Rules os) ≡ rulesRun os
 unfolding x64Rules rulesRun rulesText
 rules-text os = rw (
@@ -137,7 +134,7 @@ rules-text os = rw (
   ra-text (anyMachine os),
   cfa-text (run opCfa 8 os) (total 8 os),
   sets-text 8 os,
-) (parts (cfaOr (run setText 8 os) (total 8 os)) (run opText 8 os) (raText (anyMachine os)))
+) (sym (append-assoc (cfaOr (run setText 8 os) (total 8 os)) (run opText 8 os) (raText (anyMachine os))))
 
 pub x64-text : (ws : List ℕ) → x64Text ws ≡ render false (x64Line ws ∷ [])
 unfolding x64Text x64Line render lineText initText
