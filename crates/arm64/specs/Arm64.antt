@@ -210,6 +210,10 @@ unfoldable pub undecodable : List ℕ → ℕ → ℕ → Bool
 undecodable ws a zero = false
 undecodable ws a (suc n) = cond (eqb (word ws a) 9) false (eqb (word ws a) 10 || undecodable ws (a + 4) n)
 
+-- in a body: such an operation among those that count
+unfoldable pub armSkipped : List ℕ → Bool
+armSkipped ws = undecodable ws 3 (opCount ws)
+
 -- ---- refusal 6
 
 -- the value that an operation uses
@@ -249,7 +253,7 @@ inReach a i T p (o ∷ os) = fits (a + 4 * i) T p o && inReach a (suc i) (T + gr
 -- 4, skipping, then 6
 unfoldable pub armJudged : List ℕ → Judged
 armJudged ws =
-    cond (armLayout ws) (cond (undecodable ws 3 (opCount ws)) Skip (cond (inReach (word ws 0) 0 0 noPair (ops ws)) Write (Refuse 6))) (Refuse 4)
+    cond (armLayout ws) (cond (armSkipped ws) Skip (cond (inReach (word ws 0) 0 0 noPair (ops ws)) Write (Refuse 6))) (Refuse 4)
 
 -- ARM64 passes on what was left to it
 unfoldable pub armEntry : Last → List ℕ → Entry
@@ -257,5 +261,5 @@ armEntry last ws = comesTo (armJudged ws) (armText ws) last last
 
 -- what to unfold where ARM64 entries are to compute
 unfoldable pub Arm64·open : Type 0
-unfolding Digits·open letterOf arm64Name inside opOf counting ops width above growthOf writesCfa saves lastAfter writesRa savedText cfaText raText savesText opText defaultsText firstLine laterLine nthLine run armText opFits opsFit armLayout undecodable valueOf savedFits savesFit fits inReach armJudged armEntry
+unfolding Digits·open letterOf arm64Name inside opOf counting ops width above growthOf writesCfa saves lastAfter writesRa savedText cfaText raText savesText opText defaultsText firstLine laterLine nthLine run armText opFits opsFit armLayout undecodable armSkipped valueOf savedFits savesFit fits inReach armJudged armEntry
 Arm64·open = Unit {0}

@@ -12,8 +12,9 @@ use Rattle.text.specs.Tests.{and-l, one-less}
 use Rattle.lines.specs.Reach.{inside}
 use Rattle.entry.specs.declared.Judged.the-variants.{Write}
 use Rattle.arm64.specs.declared.Op.{Op}
-use Rattle.entry.specs.Entry.{word, only-written}
-use Rattle.arm64.specs.Arm64.{opOf, counting, opCount, ops, noPair, inReach, opFits, opsFit, armLayout, undecodable, armJudged}
+use Rattle.entry.specs.Entry.{word}
+use Rattle.entry.specs.Entry.Laws.{only-written}
+use Rattle.arm64.specs.Arm64.{opOf, counting, opCount, ops, noPair, inReach, opFits, opsFit, armLayout, undecodable, armSkipped, armJudged}
 
 -- the operation whose words start at i
 unfoldable pub opAt : List ℕ → ℕ → Op
@@ -118,4 +119,4 @@ inside-bound a b h = elim (decLt a b) [
 
 pub written : (ws : List ℕ) → armJudged ws ≡ Write → T (armLayout ws) × T (inReach (word ws 0) 0 0 noPair (ops ws))
 unfolding armJudged
-written ws h = only-written (armLayout ws) (undecodable ws 3 (opCount ws)) (inReach (word ws 0) 0 0 noPair (ops ws)) 6 h
+written ws h = only-written (armLayout ws) (armSkipped ws) (inReach (word ws 0) 0 0 noPair (ops ws)) 6 h

@@ -1,20 +1,20 @@
 -- The sense of an ARM64 entry (document 01, "Sense" and "ARM64 body"): its lines, with each operation's T by a sum over those run before it, and
--- save-next by the last earlier pair. It uses nothing of the text's definitions; that the two agree is proved in Sense/Laws.antt.
+-- save-next by the last earlier pair. With the text's definitions it shares the operations in the order in which they are run (`ops`) and the
+-- names; that the two agree is proved in Sense/Laws.antt.
 use Prim.Native.Nat.{ℕ, zero, suc, _+_, _*_}
 use mathlib.Core.Bool.{Bool, true, not, cond, _&&_}
 use mathlib.Core.List.{List, [], _∷_, _++_}
 use lib.ListN.{length}
-use lib.IntN.{pos, subℕ}
-use lib.Dec.{T}
+use lib.IntN.{ℤ, pos, subℕ, _+ℤ_}
+use lib.Dec.{eqb}
 use Rattle.text.specs.Text.{ascii}
 use Rattle.text.specs.Tests.{eqw}
 use Rattle.names.specs.Names.{arm64Name}
 use Rattle.lines.specs.Lines.{Bytes, Rule, rule, register, registerPlus, atCfaPlus, cfa, Line, init, later}
-use Rattle.entry.specs.Entry.{ifWritten, word}
+use Rattle.entry.specs.Entry.{word}
 use Rattle.arm64.specs.declared.Op.{Op}
 use Rattle.arm64.specs.declared.Op.the-variants.{AllocStack, SaveReg, SaveRegPreindexed, SaveRegPair, SaveRegPairPreindexed, SaveLrPair, SaveNext, Other, End, Undecodable}
-use Rattle.arm64.specs.declared.Saved.{Saved}
-use Rattle.arm64.specs.Arm64.{ops, above, saved, isLr, armJudged}
+use Rattle.arm64.specs.Arm64.{ops}
 pub mod Laws
 
 -- ---- sums and pairs
@@ -37,16 +37,34 @@ unfoldable pub sum : List Op → ℕ
 sum [] = 0
 sum (o ∷ ds) = sum ds + addedBy o
 
+-- a register, its letter and its number, that stands at CFA + place
+pub record Slot : Type 0 where
+  pub letter : ℕ
+  pub number : ℕ
+  pub place : ℤ
+
+-- such a register
+abbrev pub slot : ℕ → ℕ → ℤ → Slot
+slot l n z = record { letter = l; number = n; place = z }
+
+-- how far a pair's second lies above its first: 8 for x and for d, 16 for q
+unfoldable pub step : ℕ → ℕ
+step l = cond (eqb l 0) 8 (cond (eqb l 1) 8 16)
+
+-- the register behind it, so far above
+unfoldable pub next : Slot → Slot
+next p = slot (p .letter) (p .number + 1) (p .place +ℤ pos (step (p .letter)))
+
 -- the second register of the last of kinds 4, 5 and 7 among the operations run so far, latest first; at first x0 at place 0
-unfoldable pub lastPair : List Op → Saved
-lastPair [] = saved 0 0 0 0
+unfoldable pub lastPair : List Op → Slot
+lastPair [] = slot 0 0 (pos 0)
 lastPair (AllocStack v ∷ ds) = lastPair ds
 lastPair (SaveReg l r v ∷ ds) = lastPair ds
 lastPair (SaveRegPreindexed l r v ∷ ds) = lastPair ds
-lastPair (SaveRegPair l r v ∷ ds) = above (saved l r v (sum ds))
-lastPair (SaveRegPairPreindexed l r v ∷ ds) = above (saved l r 0 (sum ds + v))
+lastPair (SaveRegPair l r v ∷ ds) = next (slot l r (subℕ v (sum ds)))
+lastPair (SaveRegPairPreindexed l r v ∷ ds) = next (slot l r (subℕ 0 (sum ds + v)))
 lastPair (SaveLrPair r v ∷ ds) = lastPair ds
-lastPair (SaveNext ∷ ds) = above (above (lastPair ds))
+lastPair (SaveNext ∷ ds) = next (next (lastPair ds))
 lastPair (Other ∷ ds) = lastPair ds
 lastPair (End ∷ ds) = lastPair ds
 lastPair (Undecodable ∷ ds) = lastPair ds
@@ -54,34 +72,42 @@ lastPair (Undecodable ∷ ds) = lastPair ds
 -- ---- rules
 
 -- what stands at CFA + place
-unfoldable pub savedRule : Saved → Rule
-savedRule p = rule (arm64Name (p .letter) (p .register)) (atCfaPlus (subℕ (p .a) (p .b)))
+unfoldable pub slotRule : Slot → Rule
+slotRule p = rule (arm64Name (p .letter) (p .number)) (atCfaPlus (p .place))
 
 -- the CFA is the stack pointer plus T
 unfoldable pub cfaRule : ℕ → Rule
 cfaRule T = rule cfa (registerPlus (ascii ".sp") (pos T))
 
--- .ra where x30 lies
-unfoldable pub raRule : Saved → Rule
-raRule p = rule (ascii ".ra") (atCfaPlus (subℕ (p .a) (p .b)))
+-- .ra where x30 stands
+unfoldable pub raRule : Slot → Rule
+raRule p = rule (ascii ".ra") (atCfaPlus (p .place))
 
 -- a rule that may be there
 abbrev pub optional : Bool → Rule → List Rule
 optional t r = cond t (r ∷ []) []
 
--- a pair, with .ra where its second is x30
-unfoldable pub twoRules : Saved → Saved → List Rule
-twoRules p q = savedRule p ∷ savedRule q ∷ optional (isLr q) (raRule q)
+-- is it x30, the link register
+unfoldable pub isX30 : Slot → Bool
+isX30 p = eqb (p .number) 30 && eqb (p .letter) 0
 
--- the rules of an operation, where these were run before it, latest first
+-- a pair, with .ra where its second is x30
+unfoldable pub twoRules : Slot → Slot → List Rule
+twoRules p q = slotRule p ∷ slotRule q ∷ optional (isX30 q) (raRule q)
+
+-- a register and the one behind it
+abbrev pub pairRules : Slot → List Rule
+pairRules p = twoRules p (next p)
+
+-- the rules of an operation, where these were run before it, latest first: places are value - T, or -value - T where pre-indexed
 unfoldable pub opRules : List Op → Op → List Rule
 opRules ds (AllocStack v) = cfaRule (sum ds + v) ∷ []
-opRules ds (SaveReg l r v) = savedRule (saved l r v (sum ds)) ∷ []
-opRules ds (SaveRegPreindexed l r v) = cfaRule (sum ds + v) ∷ savedRule (saved l r 0 (sum ds + v)) ∷ []
-opRules ds (SaveRegPair l r v) = twoRules (saved l r v (sum ds)) (above (saved l r v (sum ds)))
-opRules ds (SaveRegPairPreindexed l r v) = cfaRule (sum ds + v) ∷ twoRules (saved l r 0 (sum ds + v)) (above (saved l r 0 (sum ds + v)))
-opRules ds (SaveLrPair r v) = twoRules (saved 0 r v (sum ds)) (saved 0 30 (v + 8) (sum ds))
-opRules ds SaveNext = twoRules (above (lastPair ds)) (above (above (lastPair ds)))
+opRules ds (SaveReg l r v) = slotRule (slot l r (subℕ v (sum ds))) ∷ []
+opRules ds (SaveRegPreindexed l r v) = cfaRule (sum ds + v) ∷ slotRule (slot l r (subℕ 0 (sum ds + v))) ∷ []
+opRules ds (SaveRegPair l r v) = pairRules (slot l r (subℕ v (sum ds)))
+opRules ds (SaveRegPairPreindexed l r v) = cfaRule (sum ds + v) ∷ pairRules (slot l r (subℕ 0 (sum ds + v)))
+opRules ds (SaveLrPair r v) = twoRules (slot 0 r (subℕ v (sum ds))) (slot 0 30 (subℕ v (sum ds) +ℤ pos 8))
+opRules ds SaveNext = pairRules (next (lastPair ds))
 opRules ds Other = cfaRule (sum ds) ∷ []
 opRules ds End = []
 opRules ds Undecodable = []
@@ -108,6 +134,6 @@ unfoldable pub linesFrom : ℕ → ℕ → List Op → List Op → List Line
 linesFrom a z ds [] = []
 linesFrom a z ds (o ∷ os) = armLine a z (length ds) (opRules ds o) ∷ linesFrom a z (o ∷ ds) os
 
--- 01, Sense: the lines of an entry that is written
+-- 01, Sense: the lines of an entry
 unfoldable pub armLines : List ℕ → List Line
-armLines ws = ifWritten (armJudged ws) (linesFrom (word ws 0) (word ws 1) [] (ops ws))
+armLines ws = linesFrom (word ws 0) (word ws 1) [] (ops ws)

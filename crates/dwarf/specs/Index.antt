@@ -10,7 +10,8 @@ use borrow.Author.Tests.{le-leb, ne-eqb, eqb-false}
 use Rattle.text.specs.Tests.{is-false, and-l, and-r, one-less}
 use Rattle.entry.specs.declared.Judged.the-variants.{Write}
 use Rattle.dwarf.specs.declared.RegisterRule.{RegisterRule}
-use Rattle.entry.specs.Entry.{word, only-written}
+use Rattle.entry.specs.Entry.{word}
+use Rattle.entry.specs.Entry.Laws.{only-written}
 use Rattle.dwarf.specs.Dwarf.{ruleAt, rulesFrom, ruleCount, nextRow, rowAt, rowsFrom, rowCount, rows, wide, firstStart, registers, member, once, distinct, ruleFits, rulesFit, cfaFits, rowFits, rowsFit, rulesOf, headFits, dwarfLayout, dwarfSkipped, dwarfReach, dwarfJudged, ruleBytes, Seen, seen, differs, remember, seenAfter, ranRules, nothingSeen}
 use Rattle.dwarf.specs.Cache.{newly, fresh}
 

@@ -1,46 +1,51 @@
 -- The sense of a DWARF entry (document 01, "Sense"): its lines, each rule judged by the last earlier row that names its register.
--- It uses nothing of the text's definitions; that the two agree is proved in Sense/Laws.antt.
-use Prim.Native.Nat.{ℕ, _+_, _-_}
-use mathlib.Core.Bool.{Bool, false, not, cond, _&&_, _||_}
+-- With the text's definitions it shares what the body's words hold (`Row`, `rows`, the load address and the first start, `twos`) and the names; that
+-- the two agree is proved in Sense/Laws.antt. A body's words are b.
+use Prim.Native.Nat.{ℕ, _-_}
+use mathlib.Core.Bool.{Bool, true, false, not, cond, _&&_, _||_}
 use mathlib.Core.List.{List, [], _∷_, _++_}
 use lib.IntN.{ℤ}
 use lib.Dec.{eqb, leb}
 use Rattle.text.specs.Text.{ascii}
 use Rattle.names.specs.Names.{cfiName}
 use Rattle.lines.specs.Lines.{Bytes, Form, register, registerPlus, cfaPlus, atCfaPlus, Rule, rule, Line, init, later, cfa}
-use Rattle.entry.specs.Entry.{ifWritten}
+use Rattle.entry.specs.Entry.{word}
 use Rattle.dwarf.specs.declared.RegisterRule.{RegisterRule}
 use Rattle.dwarf.specs.declared.CfaRule.{CfaRule}
-use Rattle.dwarf.specs.declared.Fde.{Fde}
-use Rattle.dwarf.specs.Dwarf.{twos, Row, rows, fdeOf, Seen, never, seen, differs, CfaSeen, noCfa, lastCfa, cfaDiffers, dwarfJudged}
+use Rattle.dwarf.specs.Dwarf.{twos, Row, rows, loadAddress, firstStart}
 pub mod Laws
 
 -- ---- the last earlier row
 
--- what the later one says; where it says nothing, the earlier
-abbrev pub orElse : Seen → Seen → Seen
-orElse never y = y
-orElse (seen k v) y = seen k v
+-- the later one; where there is none, the earlier
+abbrev pub orElse : {A : Type 0} → List A → List A → List A
+orElse [] ys = ys
+orElse (x ∷ xs) ys = x ∷ xs
 
--- what one rule says of register r
-unfoldable pub says : RegisterRule → ℕ → Seen
-says x r = cond (eqb (x .register) r) (seen (x .kind) (x .value)) never
+-- the rule of a row for register r, or none (by the layout it has at most one)
+unfoldable pub ruleFor : ℕ → List RegisterRule → List RegisterRule
+ruleFor r [] = []
+ruleFor r (x ∷ xs) = orElse (ruleFor r xs) (cond (eqb (x .register) r) (x ∷ []) [])
 
--- what a row says of a register (by the layout it names it at most once)
-unfoldable pub saidBy : List RegisterRule → ℕ → Seen
-saidBy [] r = never
-saidBy (x ∷ xs) r = orElse (saidBy xs r) (says x r)
+-- that of the last of these rows that names r, or none
+unfoldable pub lastRule : List Row → ℕ → List RegisterRule
+lastRule [] r = []
+lastRule (w ∷ ws) r = orElse (lastRule ws r) (ruleFor r (w .rules))
 
--- what the last of these rows that names it says
-unfoldable pub lastSaid : List Row → ℕ → Seen
-lastSaid [] r = never
-lastSaid (w ∷ ws) r = orElse (lastSaid ws r) (saidBy (w .rules) r)
+-- every row has a CFA: that of the last of these rows, or none
+unfoldable pub lastCfaRule : List Row → List CfaRule
+lastCfaRule [] = []
+lastCfaRule (w ∷ ws) = orElse (lastCfaRule ws) (w .cfa ∷ [])
 
--- every row has a CFA: the last of these rows' CFA
-unfoldable pub cfaBefore : List Row → CfaSeen
-cfaBefore [] = noCfa
-cfaBefore (w ∷ []) = lastCfa (w .cfa)
-cfaBefore (w ∷ v ∷ ws) = cfaBefore (v ∷ ws)
+-- 01, Sense: a rule differs where the last earlier row naming its register has another, or none does
+unfoldable pub ruleDiffers : List RegisterRule → RegisterRule → Bool
+ruleDiffers [] x = true
+ruleDiffers (y ∷ ys) x = not (eqb (x .kind) (y .kind) && eqb (x .value) (y .value))
+
+-- and so does a CFA
+unfoldable pub cfaChanges : List CfaRule → CfaRule → Bool
+cfaChanges [] x = true
+cfaChanges (y ∷ ys) x = not (eqb (x .kind) (y .kind) && (eqb (x .register) (y .register) && eqb (x .offset) (y .offset)))
 
 -- ---- rules: none where a name lacks. An empty name is none.
 
@@ -80,40 +85,58 @@ raRules f ra = named (ascii ".ra") (cond (leb 3 f && leb f 9) (nameForm (cfiName
 
 -- ---- lines
 
--- the rules of a row that differ from what was said
-unfoldable pub newRules : ℕ → ℕ → (ℕ → Seen) → List RegisterRule → List Rule
-newRules f ra said [] = []
-newRules f ra said (x ∷ xs) = cond (differs (said (x .register)) (x .kind) (x .value)) (ruleRules f ra x) [] ++ newRules f ra said xs
+-- the rules of a row that differ from those of earlier rows
+unfoldable pub newRules : ℕ → ℕ → (ℕ → List RegisterRule) → List RegisterRule → List Rule
+newRules f ra earlier [] = []
+newRules f ra earlier (x ∷ xs) = cond (ruleDiffers (earlier (x .register)) x) (ruleRules f ra x) [] ++ newRules f ra earlier xs
 
 -- whether the return register's is among them
-unfoldable pub raDiffers : ℕ → (ℕ → Seen) → List RegisterRule → Bool
-raDiffers ra said [] = false
-raDiffers ra said (x ∷ xs) = (eqb (x .register) ra && differs (said (x .register)) (x .kind) (x .value)) || raDiffers ra said xs
+unfoldable pub raDiffers : ℕ → (ℕ → List RegisterRule) → List RegisterRule → Bool
+raDiffers ra earlier [] = false
+raDiffers ra earlier (x ∷ xs) = (eqb (x .register) ra && ruleDiffers (earlier (x .register)) x) || raDiffers ra earlier xs
 
--- the default: at the first start, unless the return register's rule differs, or `moved`
-unfoldable pub defaultRules : Fde → ℕ → Bool → List Rule
-defaultRules e start moved = cond (eqb start (e .start) && not moved) (raRules (e .family) (e .ra)) []
+-- words 0 and 5: the family and the return register
+abbrev pub family : List ℕ → ℕ
+family b = word b 0
 
--- INIT at the first start; addresses less the load address
-unfoldable pub lineOf : Fde → ℕ → List Rule → Line
-lineOf e start rs = cond (eqb start (e .start)) (init (start - e .load) (e .length) rs) (later (start - e .load) rs)
+-- the return register
+abbrev pub returnRegister : List ℕ → ℕ
+returnRegister b = word b 5
+
+-- the start of the first row
+abbrev pub first : List ℕ → ℕ
+first b = firstStart (rows b)
+
+-- the end of the last row
+unfoldable pub endOf : List Row → ℕ
+endOf [] = 0
+endOf (w ∷ []) = w .end
+endOf (w ∷ v ∷ ws) = endOf (v ∷ ws)
+
+-- the default: at the first start, unless the return register's rule differs there, or `moved`
+unfoldable pub defaultRules : List ℕ → ℕ → Bool → List Rule
+defaultRules b start moved = cond (eqb start (first b) && not moved) (raRules (family b) (returnRegister b)) []
+
+-- INIT at the first start, its size the last end less that start; addresses less the load address
+unfoldable pub lineOf : List ℕ → ℕ → List Rule → Line
+lineOf b start rs = cond (eqb start (first b)) (init (start - loadAddress b) (endOf (rows b) - first b) rs) (later (start - loadAddress b) rs)
 
 -- without rules, but for a default, there is no line
-unfoldable pub rowLine : Fde → ℕ → List Rule → Bool → List Line
-rowLine e start [] moved = []
-rowLine e start (r ∷ rs) moved = lineOf e start ((r ∷ rs) ++ defaultRules e start moved) ∷ []
+unfoldable pub rowLine : List ℕ → ℕ → List Rule → Bool → List Line
+rowLine b start [] moved = []
+rowLine b start (r ∷ rs) moved = lineOf b start ((r ∷ rs) ++ defaultRules b start moved) ∷ []
 
 -- the line of row w behind the rows ds
-unfoldable pub dwarfRow : Fde → List Row → Row → List Line
-dwarfRow e ds w =
-    rowLine e (w .start) (cond (cfaDiffers (cfaBefore ds) (w .cfa)) (cfaRules (e .family) (w .cfa)) [] ++ newRules (e .family) (e .ra) (lastSaid ds) (w .rules))
-    (raDiffers (e .ra) (lastSaid ds) (w .rules))
+unfoldable pub dwarfRow : List ℕ → List Row → Row → List Line
+dwarfRow b ds w =
+    rowLine b (w .start) (cond (cfaChanges (lastCfaRule ds) (w .cfa)) (cfaRules (family b) (w .cfa)) [] ++ newRules (family b) (returnRegister b) (lastRule ds) (w .rules))
+    (raDiffers (returnRegister b) (lastRule ds) (w .rules))
 
 -- 01, Sense: the lines of rows in order, where the rows ds come before them
-unfoldable pub dwarfRows : Fde → List Row → List Row → List Line
-dwarfRows e ds [] = []
-dwarfRows e ds (w ∷ ws) = dwarfRow e ds w ++ dwarfRows e (ds ++ (w ∷ [])) ws
+unfoldable pub dwarfRows : List ℕ → List Row → List Row → List Line
+dwarfRows b ds [] = []
+dwarfRows b ds (w ∷ ws) = dwarfRow b ds w ++ dwarfRows b (ds ++ (w ∷ [])) ws
 
--- an entry's lines
+-- 01, Sense: the lines of an entry
 unfoldable pub dwarfLines : List ℕ → List Line
-dwarfLines ws = ifWritten (dwarfJudged ws) (dwarfRows (fdeOf ws) [] (rows ws))
+dwarfLines b = dwarfRows b [] (rows b)

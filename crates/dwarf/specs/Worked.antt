@@ -1,15 +1,15 @@
 -- Worked DWARF bodies, as one table: each with the refusal's number or 0 and the text, worked out by hand from document 01.
 
 use Prim.Native.Nat.{ℕ}
-use mathlib.Core.Bool.{Bool, false, _&&_}
+use mathlib.Core.Bool.{Bool, true, false, cond, _&&_}
 use mathlib.Core.List.{List, [], _∷_}
 use lib.Dec.{T, eqb}
 use Rattle.text.specs.Text.{ascii}
 use Rattle.text.specs.Tests.{all, eqw}
-use Rattle.lines.specs.Lines.{Bytes, render, lineOk, Lines·open}
+use Rattle.lines.specs.Lines.{Bytes, Line, render, lineOk, Lines·open}
 use Rattle.entry.specs.Entry.{noLast}
-use Rattle.dwarf.specs.Dwarf.{dwarfEntry, Dwarf·open}
-use Rattle.dwarf.specs.Sense.{dwarfLines, dwarfRows, dwarfRow, rowLine, lineOf, defaultRules, newRules, raDiffers, raRules, cfaRules, cfaPlusRules, ruleRules, named, ruleForms, nameForm, lastSaid, saidBy, says, cfaBefore}
+use Rattle.dwarf.specs.Dwarf.{dwarfSkipped, dwarfEntry, Dwarf·open}
+use Rattle.dwarf.specs.Sense.{dwarfLines, dwarfRows, dwarfRow, rowLine, lineOf, defaultRules, newRules, raDiffers, raRules, cfaRules, cfaPlusRules, ruleRules, named, ruleForms, nameForm, ruleFor, lastRule, lastCfaRule, ruleDiffers, cfaChanges, endOf}
 
 -- a body's words, and what its entry gives
 pub record Case : Type 0 where
@@ -83,12 +83,16 @@ cases =
     ∷ record { words = 2 ∷ 0 ∷ 0 ∷ 0 ∷ 0 ∷ 16 ∷ 1 ∷ 0 ∷ 0 ∷ 4 ∷ 0 ∷ 0 ∷ 7 ∷ 8 ∷ 0 ∷ 4294967295 ∷ []; number = 4; text = [] }
     ∷ []
 
--- the entry as it is run, and its lines' text
+-- the lines of a body that is not skipped
+abbrev unskipped : List ℕ → List Line
+unskipped ws = cond (dwarfSkipped ws) [] (dwarfLines ws)
+
+-- the entry as it is run, and its lines' text where it is not refused
 abbrev pub passes : Case → Bool
 passes k =
     (eqb (dwarfEntry noLast (k .words) .number) (k .number) && eqw (dwarfEntry noLast (k .words) .text) (k .text))
-    && (eqw (render false (dwarfLines (k .words))) (k .text) && all lineOk (dwarfLines (k .words)))
+    && cond (eqb (k .number) 0) (eqw (render false (unskipped (k .words))) (k .text) && all lineOk (unskipped (k .words))) true
 
 pub worked : T (all passes cases)
-unfolding cases Dwarf·open Lines·open dwarfLines dwarfRows dwarfRow rowLine lineOf defaultRules newRules raDiffers raRules cfaRules cfaPlusRules ruleRules named ruleForms nameForm lastSaid saidBy says cfaBefore
+unfolding cases Dwarf·open Lines·open dwarfLines dwarfRows dwarfRow rowLine lineOf defaultRules newRules raDiffers raRules cfaRules cfaPlusRules ruleRules named ruleForms nameForm ruleFor lastRule lastCfaRule ruleDiffers cfaChanges endOf
 worked = tt

@@ -8,12 +8,16 @@ use mathlib.Core.List.{List, [], _∷_, _++_, reverse, reverseAux, reverse-appen
 use borrow.Author.Tests.{ne-eqb, eq-eqb}
 use lib.ListN.{length}
 use lib.Dec.{T, leb, eqb, leb→le, eqb→eq}
+use Rattle.text.specs.Text.{ascii}
 use Rattle.text.specs.Tests.{and-l, and-r, both, all, one-less}
+use Rattle.lines.specs.declared.StackInfo.{StackInfo}
+use Rattle.lines.specs.Lines.{flag, winText}
 use Rattle.entry.specs.declared.Judged.the-variants.{Write}
 use Rattle.entry.specs.declared.Last.{Last}
 use Rattle.pdb.specs.declared.Range.{Range}
-use Rattle.entry.specs.Entry.{word, only-written}
-use Rattle.pdb.specs.Pdb.{startOf, endOf, rangeAt, ranges, wordsFrom, prologs, codes, program, sizesFit, flagsFit, hasProgram, lengthFits, countsFit, rangeFits, apart, differ, rangesFit, printable, restFits, pdbLayout, pdbSkipped, inReach, lead, trim, contiguous, pdbJudged}
+use Rattle.entry.specs.Entry.{word}
+use Rattle.entry.specs.Entry.Laws.{only-written}
+use Rattle.pdb.specs.Pdb.{startOf, endOf, rangeAt, ranges, wordsFrom, prologs, codes, program, sizesFit, flagsFit, hasProgram, lengthFits, countsFit, rangeFits, apart, differ, rangesFit, printable, restFits, pdbLayout, pdbSkipped, inReach, lead, trim, maxStack, numbersText, contiguous, pdbJudged}
 use Rattle.pdb.specs.declared.Found.{Found}
 use Rattle.pdb.specs.Sorted.{step, found}
 
@@ -229,7 +233,7 @@ pub lead-none : (ws : List ℕ) (a n : ℕ) → n ≤ 0 → lead (wordsFrom ws a
 unfolding wordsFrom lead
 lead-none ws a n h = let e : n ≡ 0 = omega arith in rw e
 
-reverse-snoc : (xs : List ℕ) (c : ℕ) → reverse (xs ++ (c ∷ [])) ≡ c ∷ reverse xs
+pub reverse-snoc : (xs : List ℕ) (c : ℕ) → reverse (xs ++ (c ∷ [])) ≡ c ∷ reverse xs
 reverse-snoc xs c = reverse-append xs (c ∷ [])
 
 pad-keep : (xs : List ℕ) (c : ℕ) → (c ≡ 32 → ⊥) → unpadded (xs ++ (c ∷ [])) ≡ xs ++ (c ∷ [])
@@ -271,3 +275,27 @@ aux-all p (c ∷ cs) a h k = aux-all p cs (c ∷ a) (and-r (p c) _ h) (both (p c
 pub trim-all : (p : ℕ → Bool) (t : List ℕ) → T (all p t) → T (all p (trim t))
 unfolding trim
 trim-all p t h = aux-all p (lead (reverse (lead t))) [] (lead-all p (reverse (lead t)) (aux-all p (lead t) [] (lead-all p t h) tt)) tt
+
+-- ---- the nine numbers, as the code hands them to `lines`
+
+-- those of the line from s up to e, with prolog size p
+unfoldable pub infoOf : List ℕ → ℕ → ℕ → ℕ → StackInfo
+infoOf ws s e p = record {
+  ty = word ws 0;
+  start = s;
+  «code_size» = e - s;
+  «prolog_size» = p;
+  «epilog_size» = 0;
+  «params_size» = word ws 4;
+  «saved_regs_size» = word ws 5;
+  «locals_size» = word ws 6;
+  «max_stack_size» = maxStack ws;
+}
+
+flag-text : (t : Bool) → flag t ≡ cond t (ascii "1 ") (ascii "0 ")
+flag-text true = refl
+flag-text false = refl
+
+pub win-text : (ws : List ℕ) (s e p : ℕ) → winText (infoOf ws s e p) (hasProgram ws) ≡ numbersText ws s e p
+unfolding winText infoOf numbersText
+win-text ws s e p = rw (flag-text (hasProgram ws))

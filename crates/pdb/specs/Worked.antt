@@ -1,15 +1,15 @@
 -- Worked PDB bodies, as one table: what document 01 makes of each, by hand.
 use Prim.Native.Nat.{ℕ}
-use mathlib.Core.Bool.{Bool, true, false, _&&_}
+use mathlib.Core.Bool.{Bool, true, false, cond, _&&_}
 use mathlib.Core.List.{List, [], _∷_, _++_}
 use lib.Dec.{T, eqb}
 use Rattle.text.specs.Text.{ascii}
 use Rattle.text.specs.Tests.{all, eqw}
-use Rattle.lines.specs.Lines.{render, Lines·open}
+use Rattle.lines.specs.Lines.{Line, render, Lines·open}
 use Rattle.entry.specs.declared.Last.{Last}
 use Rattle.entry.specs.Entry.{noLast}
-use Rattle.pdb.specs.Pdb.{pdbEntry, Pdb·open}
-use Rattle.pdb.specs.Sense.{infoOf, rangeInfos, bothInfo, stackInfos, winLine, winLines, pdbLines}
+use Rattle.pdb.specs.Pdb.{pdbSkipped, pdbEntry, Pdb·open}
+use Rattle.pdb.specs.Sense.{withProgram, noFront, before, noBack, winTail, mostStack, fieldsOf, prologFields, codeFields, bothFields, placed, byStart, meets, stackInfos, winLine, pdbLines}
 
 -- a body, after what the entries before it left; its refusal's number or 0, its text, and the start that it leaves to the next
 pub record Case : Type 0 where
@@ -79,12 +79,17 @@ cases =
     ∷ record { last = noLast; body = 1 ∷ 9 ∷ 8 ∷ 0 ∷ 0 ∷ 0 ∷ 0 ∷ 0 ∷ 0 ∷ 0 ∷ 1 ∷ 1 ∷ 0 ∷ 0 ∷ 1 ∷ 10 ∷ []; number = 4; text = []; next = 0 }
     ∷ []
 
--- the entry as it is run, its lines' text, and what it leaves
+-- the lines of a body that is not skipped, behind such an entry
+abbrev unskipped : Last → List ℕ → List Line
+unskipped last ws = cond (pdbSkipped last ws) [] (pdbLines ws)
+
+-- the entry as it is run, its lines' text where it is not refused, and what it leaves
 abbrev pub passes : Case → Bool
 passes k =
     let e = pdbEntry (k .last) (k .body) in
-    eqb (e .number) (k .number) && (eqw (e .text) (k .text) && (eqw (render false (pdbLines (k .last) (k .body))) (k .text) && eqb (e .next .start) (k .next)))
+    eqb (e .number) (k .number)
+    && (eqw (e .text) (k .text) && (cond (eqb (k .number) 0) (eqw (render false (unskipped (k .last) (k .body))) (k .text)) true && eqb (e .next .start) (k .next)))
 
 worked : T (all passes cases)
-unfolding cases Pdb·open Lines·open infoOf rangeInfos bothInfo stackInfos winLine winLines pdbLines
+unfolding cases Pdb·open Lines·open withProgram noFront before noBack winTail mostStack fieldsOf prologFields codeFields bothFields placed byStart meets stackInfos winLine pdbLines
 worked = tt

@@ -6,7 +6,12 @@ use native.Mathlib.Nat.{add-assoc}
 use mathlib.Core.Bool.{Bool, true, false, cond, _&&_, _||_}
 use mathlib.Core.List.{List, [], _∷_, _++_, append-assoc, reverse, reverse-cons}
 use borrow.Author.Tests.{le-leb, lt-ltb}
+use lib.IntN.{ℤ}
 use lib.Dec.{T, ltb, leb, eqb, ltb→lt, leb→le}
+use Rattle.text.specs.Text.{ascii}
+use Rattle.text.specs.Digits.{signed}
+use Rattle.lines.specs.Lines.{Bytes, registerPlus, atRegisterPlus, atCfaMinus, rule, cfa, formText, ruleText}
+use Rattle.lines.specs.Lines.Laws.{row}
 use Rattle.lines.specs.Reach.{inside, difference-inside}
 use Rattle.text.specs.Tests.{and-l, and-r, both, all, all-append, one-less, either}
 use Rattle.entry.specs.declared.Judged.{Judged}
@@ -14,7 +19,7 @@ use Rattle.entry.specs.declared.Judged.the-variants.{Refuse, Skip, Write}
 use Rattle.x64.specs.declared.Op.{Op}
 use Rattle.x64.specs.declared.Op.the-variants.{PushNonVolatile, Alloc, SaveRsp, SaveFp, SetFpRegister, PushMachineFrame, Other, Undecodable}
 use Rattle.entry.specs.Entry.{word}
-use Rattle.x64.specs.X64.{opOf, stored, infos, inOrder, infoCount, chain, growthOf, valueOf, run, opFits, opsFit, infoFits, infosFit, x64Layout, undecodableOps, undecodableInfos, printed, inReach, setCount, x64Reach, x64Skipped, x64Judged}
+use Rattle.x64.specs.X64.{opOf, stored, infos, inOrder, infoCount, chain, growthOf, valueOf, run, opFits, opsFit, infoFits, infosFit, x64Layout, undecodableOps, undecodableInfos, printed, inReach, setCount, x64Reach, x64Skipped, x64Judged, savedText, framedText, cfaText}
 
 -- ---- operations
 
@@ -258,3 +263,17 @@ chain-none ws l h = rw (chain-reach ws l) (go (inReach 8 (chain ws)) (ltb 1 (set
     go : (b d : Bool) → _≡_ {A = ℕ} (cond b (cond d 7 0) 6) 0 → T b
     go true d k = tt
     go false d k = absurd (omega arith)
+
+-- ---- a rule that the code hands to `lines` is written as the text has it
+
+pub saved-rule : (n : Bytes) (z : ℤ) → ruleText (rule n (atCfaMinus z)) ≡ savedText n z
+unfolding ruleText formText savedText
+saved-rule n z = refl
+
+pub framed-rule : (n r : Bytes) (z : ℤ) → ruleText (rule n (atRegisterPlus r z)) ≡ framedText n r z
+unfolding ruleText formText framedText
+framed-rule n r z = row (ascii " " ++ n ++ ascii ": ") r (ascii " ") (signed z) (ascii " + ^")
+
+pub cfa-rule : (r : Bytes) (z : ℤ) → ruleText (rule cfa (registerPlus r z)) ≡ cfaText r z
+unfolding ruleText formText cfaText
+cfa-rule r z = row (ascii " .cfa: ") r (ascii " ") (signed z) (ascii " +")

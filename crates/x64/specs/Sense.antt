@@ -1,17 +1,19 @@
 -- The sense of an x64 entry (document 01, "Sense"): its line, with each operation's S by a sum over those run before it.
--- It uses nothing of the text's definitions; that the two agree is proved in Sense/Laws.antt.
+-- With the text's definitions it shares the operations in the order in which they are run (`chain`) and the names; that the two agree is proved in
+-- Sense/Laws.antt.
 use Prim.Native.Nat.{ℕ, zero, suc, _+_, _-_}
-use mathlib.Core.Bool.{Bool, cond}
+use mathlib.Core.Bool.{cond}
 use mathlib.Core.List.{List, [], _∷_, _++_}
 use lib.ListN.{length, getD, take}
 use lib.IntN.{pos, subℕ}
+use lib.Dec.{eqb}
 use Rattle.text.specs.Text.{ascii}
 use Rattle.names.specs.Names.{peName}
 use Rattle.lines.specs.Lines.{Form, registerPlus, atRegisterPlus, atCfaMinus, Rule, rule, Line, init, cfa}
-use Rattle.entry.specs.Entry.{ifWritten, word}
+use Rattle.entry.specs.Entry.{word}
 use Rattle.x64.specs.declared.Op.{Op}
 use Rattle.x64.specs.declared.Op.the-variants.{PushNonVolatile, Alloc, SaveRsp, SaveFp, SetFpRegister, PushMachineFrame, Other, Undecodable}
-use Rattle.x64.specs.X64.{chain, isMachine, anyMachine, x64Judged}
+use Rattle.x64.specs.X64.{chain}
 pub mod Laws
 
 -- ---- what an operation recovers, where its S is known
@@ -43,10 +45,6 @@ unfoldable pub cfaForm : List Form → ℕ → Form
 cfaForm [] S = registerPlus (ascii "$rsp") (pos S)
 cfaForm (f ∷ fs) S = f
 
--- with no machine frame the return address stands at CFA - 8
-unfoldable pub raRules : Bool → List Rule
-raRules machine = cond machine [] (rule (ascii ".ra") (atCfaMinus (pos 8)) ∷ [])
-
 -- ---- S by sums
 
 -- 8 a push, an allocation's value, 40 a machine frame and 8 its error code
@@ -75,19 +73,7 @@ module _ {A : Type 0} where
   unfoldable pub sums : (ℕ → Op → List A) → List Op → List A
   sums f os = each (λ k. f (8 + sum (take k os)) (getD os k Other)) 0 (length os)
 
--- the rules of operations in the order in which they are run
-unfoldable pub x64Rules : List Op → List Rule
-x64Rules os = rule cfa (cfaForm (sums opCfa os) (8 + sum os)) ∷ (sums opRules os ++ raRules (anyMachine os))
-
--- 01, Sense: INIT, its address, size and rules
-unfoldable pub x64Line : List ℕ → Line
-x64Line ws = init (word ws 0) (word ws 1 - word ws 0) (x64Rules (chain ws))
-
--- 01, Sense: the line of an entry that is written
-unfoldable pub x64Lines : ℕ → List ℕ → List Line
-x64Lines limit ws = ifWritten (x64Judged limit ws) (x64Line ws ∷ [])
-
--- ---- what a chain adds up to, for the law of the CFA
+-- ---- what a chain adds up to
 
 -- how many pushes
 unfoldable pub pushes : List Op → ℕ
@@ -102,9 +88,27 @@ allocations (o ∷ os) = elim o [ PushNonVolatile r ↦ 0 | Alloc v ↦ v | Save
 -- how many machine frames
 unfoldable pub machineFrames : List Op → ℕ
 machineFrames [] = 0
-machineFrames (o ∷ os) = cond (isMachine o) 1 0 + machineFrames os
+machineFrames (o ∷ os) = elim o [ PushNonVolatile r ↦ 0 | Alloc v ↦ 0 | SaveRsp r v ↦ 0 | SaveFp r v f o ↦ 0 | SetFpRegister f o ↦ 0 | PushMachineFrame e ↦ 1 | Other ↦ 0 | Undecodable ↦ 0 ] + machineFrames os
 
 -- how many of them with an error code
 unfoldable pub errorCodes : List Op → ℕ
 errorCodes [] = 0
 errorCodes (o ∷ os) = elim o [ PushNonVolatile r ↦ 0 | Alloc v ↦ 0 | SaveRsp r v ↦ 0 | SaveFp r v f o ↦ 0 | SetFpRegister f o ↦ 0 | PushMachineFrame e ↦ cond e 1 0 | Other ↦ 0 | Undecodable ↦ 0 ] + errorCodes os
+
+-- ---- the line
+
+-- with no machine frame the return address stands at CFA - 8
+unfoldable pub raRules : List Op → List Rule
+raRules os = cond (eqb (machineFrames os) 0) (rule (ascii ".ra") (atCfaMinus (pos 8)) ∷ []) []
+
+-- the rules of operations in the order in which they are run
+unfoldable pub x64Rules : List Op → List Rule
+x64Rules os = rule cfa (cfaForm (sums opCfa os) (8 + sum os)) ∷ (sums opRules os ++ raRules os)
+
+-- 01, Sense: INIT, its address, size and rules
+unfoldable pub x64Line : List ℕ → Line
+x64Line ws = init (word ws 0) (word ws 1 - word ws 0) (x64Rules (chain ws))
+
+-- 01, Sense: an entry has one line
+unfoldable pub x64Lines : List ℕ → List Line
+x64Lines ws = x64Line ws ∷ []

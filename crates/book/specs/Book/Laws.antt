@@ -93,3 +93,14 @@ module _ (b : List ℕ) where
   pub part-is : (i a k : ℕ) → a ≡ startOf b i → k ≡ sizeOf b i → take (a + k - a) (drop a b) ≡ body b i
   unfolding body
   part-is i a k p q = let z : a + k - a ≡ k = omega arith in rw (z, p, q)
+
+  listed : (k j i : ℕ) → i < k → bodiesFrom b j k ≡ take i (bodiesFrom b j k) ++ (body b (j + i) ∷ drop (suc i) (bodiesFrom b j k))
+  unfolding bodiesFrom
+  listed zero j i h = absurd (omega arith)
+  listed (suc k) j zero h = let z : j + 0 ≡ j = omega arith in rw z
+  listed (suc k) j (suc i) h = let z : j + suc i ≡ suc j + i = omega arith in rw z (ap (λ (bs : List (List ℕ)). body b j ∷ bs) (listed k (suc j) i (omega arith)))
+
+  -- body i stands among the bodies behind i others
+  pub bodies-at : (i : ℕ) → i < count b → bodies b ≡ take i (bodies b) ++ (body b i ∷ drop (suc i) (bodies b))
+  unfolding bodies
+  bodies-at i h = let z : 0 + i ≡ i = omega arith in rw z at (listed (count b) 0 i h)

@@ -1,9 +1,11 @@
 -- The text of a DWARF entry as its rows are run is the text of its sense, and the lines are well formed.
 use mathlib.Core.Path.{_≡_, refl, sym, ap, ap₂, _∙_, fun-ext}
 use Prim.Native.Nat.{ℕ, zero, suc, _+_, _-_}
-use mathlib.Core.Bool.{Bool, true, false, not, cond, _&&_}
+use mathlib.Core.Bool.{Bool, true, false, not, cond, _&&_, _||_, false≢true}
 use mathlib.Core.List.{List, [], _∷_, _++_, append-assoc, append-nil}
 use lib.IntN.{ℤ}
+use native.Mathlib.Decide.{ℕ-discrete}
+use borrow.Author.Tests.{eq-eqb, ne-eqb}
 use lib.Dec.{T, eqb, leb}
 use Rattle.text.specs.Text.{ascii}
 use Rattle.text.specs.Digits.{hex, signed}
@@ -12,51 +14,87 @@ use Rattle.names.specs.Names.{cfiName}
 use Rattle.lines.specs.Lines.{Bytes, Form, register, registerPlus, cfaPlus, atCfaPlus, Rule, rule, init, later, cfa, formText, ruleText, rulesText, initText, laterText, lineText, render, nameOk, registerOk, formOk, ruleOk, lineOk}
 use Rattle.lines.specs.Lines.Laws.{rules-append, render-append, render-none}
 use Rattle.lines.specs.Rules.Laws.{cfi-ok}
-use Rattle.entry.specs.declared.Judged.{Judged}
-use Rattle.entry.specs.declared.Judged.the-variants.{Refuse, Skip, Write}
 use Rattle.entry.specs.declared.Last.{Last}
-use Rattle.entry.specs.Entry.{comesTo, ifWritten}
+use Rattle.entry.specs.Entry.Laws.{Accepted, accepted}
 use Rattle.dwarf.specs.declared.RegisterRule.{RegisterRule}
 use Rattle.dwarf.specs.declared.CfaRule.{CfaRule}
-use Rattle.dwarf.specs.declared.Fde.{Fde}
-use Rattle.dwarf.specs.Dwarf.{twos, Row, rows, fdeOf, Seen, never, seen, differs, CfaSeen, noCfa, lastCfa, cfaDiffers, dwarfJudged, nextRow, rowAt, rowsFrom, rowCount, registers, member, once, rowFits, rowsFit, any, formBytes, namedBytes, ruleBytes, cfaBytes, raBytes, defaultBytes, startBytes, lineBytes, rowBytes, remember, seenAfter, ranMoved, ranOf, ranRow, ranRows, nothingSeen, dwarfText, dwarfEntry}
-use Rattle.dwarf.specs.Index.{layout-rows, rowRules, free-ind, once-free, once-rest, ran-row, row-once, written}
-use Rattle.dwarf.specs.Sense.{orElse, says, saidBy, lastSaid, cfaBefore, nameForm, ruleForms, named, ruleRules, cfaPlusRules, cfaRules, raRules, newRules, raDiffers, defaultRules, lineOf, rowLine, dwarfRow, dwarfRows, dwarfLines}
+use Rattle.dwarf.specs.Dwarf.{twos, Row, rows, loadAddress, lastEnd, fdeOf, dwarfLayout, dwarfSkipped, dwarfReach, Seen, never, seen, differs, CfaSeen, noCfa, lastCfa, cfaDiffers, dwarfJudged, nextRow, rowAt, rowsFrom, rowCount, registers, member, once, rowFits, rowsFit, any, formBytes, namedBytes, ruleBytes, cfaBytes, raBytes, defaultBytes, startBytes, lineBytes, rowBytes, remember, seenAfter, ranMoved, ranOf, ranRow, ranRows, nothingSeen, dwarfText, dwarfEntry}
+use Rattle.dwarf.specs.Index.{layout-rows, rowRules, free-ind, once-free, once-rest, ran-row, row-once}
+use Rattle.dwarf.specs.Sense.{orElse, ruleFor, lastRule, lastCfaRule, ruleDiffers, cfaChanges, nameForm, ruleForms, named, ruleRules, cfaPlusRules, cfaRules, raRules, newRules, raDiffers, family, returnRegister, first, endOf, defaultRules, lineOf, rowLine, dwarfRow, dwarfRows, dwarfLines}
 
--- ---- what was said against what is remembered
+-- ---- the last earlier row against what is remembered
 
-orElse-assoc : (x y z : Seen) → orElse (orElse x y) z ≡ orElse x (orElse y z)
-orElse-assoc never y z = refl
-orElse-assoc (seen k v) y z = refl
+-- a rule of the sense, as the text remembers it; where there is none, what was remembered before
+orSeen : List RegisterRule → Seen → Seen
+orSeen [] s = s
+orSeen (x ∷ xs) s = seen (x .kind) (x .value)
 
-orElse-never : (x : Seen) → orElse x never ≡ x
-orElse-never never = refl
-orElse-never (seen k v) = refl
+-- the same of the last earlier CFA
+cfaSeen : List CfaRule → CfaSeen
+cfaSeen [] = noCfa
+cfaSeen (x ∷ xs) = lastCfa x
 
-said-snoc : (ds : List Row) (w : Row) (r : ℕ) → lastSaid (ds ++ (w ∷ [])) r ≡ orElse (saidBy (w .rules) r) (lastSaid ds r)
-unfolding lastSaid
-said-snoc [] w r = sym (orElse-never (saidBy (w .rules) r))
-said-snoc (d ∷ ds) w r = rw (said-snoc ds w r) (orElse-assoc (saidBy (w .rules) r) (lastSaid ds r) (saidBy (d .rules) r))
+-- what is remembered of a register, by the rule of an earlier row or none
+seenBy : (ℕ → List RegisterRule) → ℕ → Seen
+seenBy earlier r = orSeen (earlier r) never
 
-cfa-snoc : (ds : List Row) (w : Row) → cfaBefore (ds ++ (w ∷ [])) ≡ lastCfa (w .cfa)
-unfolding cfaBefore
+orElse-assoc : {A : Type 0} (x y z : List A) → orElse (orElse x y) z ≡ orElse x (orElse y z)
+orElse-assoc [] y z = refl
+orElse-assoc (a ∷ x) y z = refl
+
+orElse-none : {A : Type 0} (x : List A) → orElse x [] ≡ x
+orElse-none [] = refl
+orElse-none (a ∷ x) = refl
+
+or-seen : (x y : List RegisterRule) (s : Seen) → orSeen (orElse x y) s ≡ orSeen x (orSeen y s)
+unfolding orSeen
+or-seen [] y s = refl
+or-seen (a ∷ x) y s = refl
+
+rule-snoc : (ds : List Row) (w : Row) (r : ℕ) → lastRule (ds ++ (w ∷ [])) r ≡ orElse (ruleFor r (w .rules)) (lastRule ds r)
+unfolding lastRule
+rule-snoc [] w r = sym (orElse-none (ruleFor r (w .rules)))
+rule-snoc (d ∷ ds) w r = rw (rule-snoc ds w r) (orElse-assoc (ruleFor r (w .rules)) (lastRule ds r) (ruleFor r (d .rules)))
+
+cfa-snoc : (ds : List Row) (w : Row) → lastCfaRule (ds ++ (w ∷ [])) ≡ w .cfa ∷ []
+unfolding lastCfaRule
 cfa-snoc [] w = refl
-cfa-snoc (d ∷ []) w = refl
-cfa-snoc (d ∷ e ∷ ds) w = cfa-snoc (e ∷ ds) w
+cfa-snoc (d ∷ ds) w = rw (cfa-snoc ds w)
 
-remember-says : (c : ℕ → Seen) (x : RegisterRule) (r : ℕ) → remember c x r ≡ orElse (says x r) (c r)
-unfolding says
-remember-says c x r = go (eqb (x .register) r)
+remember-rule : (c : ℕ → Seen) (x : RegisterRule) (r : ℕ) → remember c x r ≡ orSeen (cond (eqb (x .register) r) (x ∷ []) []) (c r)
+unfolding orSeen
+remember-rule c x r = go (eqb (x .register) r)
   where
-    go : (t : Bool) → cond t (seen (x .kind) (x .value)) (c r) ≡ orElse (cond t (seen (x .kind) (x .value)) never) (c r)
+    go : (t : Bool) → cond t (seen (x .kind) (x .value)) (c r) ≡ orSeen (cond t (x ∷ []) []) (c r)
     go true = refl
     go false = refl
 
-after-said : (c : ℕ → Seen) (xs : List RegisterRule) (r : ℕ) → seenAfter c xs r ≡ orElse (saidBy xs r) (c r)
-unfolding seenAfter saidBy
-after-said c [] r = refl
-after-said c (x ∷ xs) r =
-    after-said (remember c x) xs r ∙ ap (orElse (saidBy xs r)) (remember-says c x r) ∙ sym (orElse-assoc (saidBy xs r) (says x r) (c r))
+after-rules : (c : ℕ → Seen) (xs : List RegisterRule) (r : ℕ) → seenAfter c xs r ≡ orSeen (ruleFor r xs) (c r)
+unfolding seenAfter ruleFor orSeen
+after-rules c [] r = refl
+after-rules c (x ∷ xs) r =
+    after-rules (remember c x) xs r ∙ ap (orSeen (ruleFor r xs)) (remember-rule c x r) ∙ sym (or-seen (ruleFor r xs) (cond (eqb (x .register) r) (x ∷ []) []) (c r))
+
+after-row : (ds : List Row) (w : Row) (r : ℕ) → seenAfter (seenBy (lastRule ds)) (w .rules) r ≡ seenBy (lastRule (ds ++ (w ∷ []))) r
+unfolding seenBy
+after-row ds w r =
+    after-rules (seenBy (lastRule ds)) (w .rules) r ∙ sym (or-seen (ruleFor r (w .rules)) (lastRule ds r) never) ∙ ap (λ (xs : List RegisterRule). orSeen xs never) (sym (rule-snoc ds w r))
+
+swapped : (a b : ℕ) → eqb a b ≡ eqb b a
+swapped a b = elim (ℕ-discrete a b) [
+  | yes e ↦ rw (eq-eqb a b e, eq-eqb b a (sym e))
+  | no n ↦ rw (ne-eqb a b n, ne-eqb b a (λ e. n (sym e)))
+]
+
+rule-differs : (ys : List RegisterRule) (x : RegisterRule) → differs (orSeen ys never) (x .kind) (x .value) ≡ ruleDiffers ys x
+unfolding orSeen ruleDiffers
+rule-differs [] x = refl
+rule-differs (y ∷ ys) x = rw (swapped (x .kind) (y .kind), swapped (x .value) (y .value))
+
+cfa-differs : (ys : List CfaRule) (x : CfaRule) → cfaDiffers (cfaSeen ys) x ≡ cfaChanges ys x
+unfolding cfaSeen cfaChanges
+cfa-differs [] x = refl
+cfa-differs (y ∷ ys) x = rw (swapped (x .kind) (y .kind), swapped (x .register) (y .register), swapped (x .offset) (y .offset))
 
 -- ---- what is written is the text of the rules
 
@@ -118,56 +156,77 @@ unfolding rulesText
 cond-text true rs x e = e
 cond-text false rs x e = refl
 
-default-text : (e : Fde) (start : ℕ) (moved : Bool) → rulesText (defaultRules e start moved) ≡ defaultBytes e start moved
-unfolding defaultRules defaultBytes
-default-text e start moved = cond-text (eqb start (e .start) && not moved) _ _ (ra-text (e .family) (e .ra))
+default-text : (b : List ℕ) (start : ℕ) (moved : Bool) → rulesText (defaultRules b start moved) ≡ defaultBytes (fdeOf b) start moved
+unfolding defaultRules defaultBytes fdeOf
+default-text b start moved = cond-text (eqb start (first b) && not moved) _ _ (ra-text (family b) (returnRegister b))
 
 -- ---- a row's line is dropped in both or in none
 
-line-text : (e : Fde) (start : ℕ) (rs : List Rule) → lineText false (lineOf e start rs) ≡ startBytes e start ++ rulesText rs ++ ascii "\n"
-unfolding lineText lineOf startBytes initText laterText
-line-text e start rs = go (eqb start (e .start))
+end-last : (w : Row) (ws : List Row) → lastEnd (w .end) ws ≡ endOf (w ∷ ws)
+unfolding lastEnd endOf
+end-last w [] = refl
+end-last w (v ∷ ws) = end-last v ws
+
+end-is : (ws : List Row) → lastEnd 0 ws ≡ endOf ws
+unfolding lastEnd endOf
+end-is [] = refl
+end-is (w ∷ ws) = end-last w ws
+
+line-text : (b : List ℕ) (start : ℕ) (rs : List Rule) → lineText false (lineOf b start rs) ≡ startBytes (fdeOf b) start ++ rulesText rs ++ ascii "\n"
+unfolding lineText lineOf startBytes initText laterText fdeOf
+line-text b start rs = rw (end-is (rows b)) (go (eqb start (first b)))
   where
-    go : (t : Bool) → lineText false (cond t (init (start - e .load) (e .length) rs) (later (start - e .load) rs))
-        ≡ cond t (ascii "STACK CFI INIT " ++ hex (start - e .load) ++ ascii " " ++ hex (e .length)) (ascii "STACK CFI " ++ hex (start - e .load)) ++ rulesText rs ++ ascii "\n"
+    go : (t : Bool) → lineText false (cond t (init (start - loadAddress b) (endOf (rows b) - first b) rs) (later (start - loadAddress b) rs))
+        ≡ cond t (ascii "STACK CFI INIT " ++ hex (start - loadAddress b) ++ ascii " " ++ hex (endOf (rows b) - first b)) (ascii "STACK CFI " ++ hex (start - loadAddress b)) ++ rulesText rs ++ ascii "\n"
     go true = refl
     go false = refl
 
-line-bytes : (e : Fde) (start : ℕ) (rs : List Rule) (moved : Bool) → lineText false (lineOf e start (rs ++ defaultRules e start moved)) ≡ lineBytes e start (rulesText rs) moved
+line-bytes : (b : List ℕ) (start : ℕ) (rs : List Rule) (moved : Bool) → lineText false (lineOf b start (rs ++ defaultRules b start moved)) ≡ lineBytes (fdeOf b) start (rulesText rs) moved
 unfolding lineBytes
-line-bytes e start rs moved = rw (
-  line-text e start (rs ++ defaultRules e start moved),
-  rules-append rs (defaultRules e start moved),
-  default-text e start moved,
-  append-assoc (startBytes e start) (rulesText rs) (defaultBytes e start moved),
+line-bytes b start rs moved = rw (
+  line-text b start (rs ++ defaultRules b start moved),
+  rules-append rs (defaultRules b start moved),
+  default-text b start moved,
+  append-assoc (startBytes (fdeOf b) start) (rulesText rs) (defaultBytes (fdeOf b) start moved),
 )
 
-row-text : (e : Fde) (start : ℕ) (rs : List Rule) (moved : Bool) → render false (rowLine e start rs moved) ≡ rowBytes e start (rulesText rs) moved
+row-text : (b : List ℕ) (start : ℕ) (rs : List Rule) (moved : Bool) → render false (rowLine b start rs moved) ≡ rowBytes (fdeOf b) start (rulesText rs) moved
 unfolding rowLine render rowBytes rulesText ruleText any
-row-text e start [] moved = refl
-row-text e start (rule n f ∷ rs) moved =
-    append-nil (lineText false (lineOf e start ((rule n f ∷ rs) ++ defaultRules e start moved))) ∙ line-bytes e start (rule n f ∷ rs) moved
+row-text b start [] moved = refl
+row-text b start (rule n f ∷ rs) moved =
+    append-nil (lineText false (lineOf b start ((rule n f ∷ rs) ++ defaultRules b start moved))) ∙ line-bytes b start (rule n f ∷ rs) moved
 
--- ---- a row that names no register twice: comparing as it goes is comparing with what was said before it
+-- ---- a row that names no register twice: comparing as it goes is comparing with the rows before it
 
-new-text : (f ra : ℕ) (c : ℕ → Seen) (xs : List RegisterRule) → rulesText (newRules f ra c xs) ≡ rowRules f ra c xs
-unfolding newRules rowRules rulesText
-new-text f ra c [] = refl
-new-text f ra c (x ∷ xs) = rw (
-  rules-append (cond (differs (c (x .register)) (x .kind) (x .value)) (ruleRules f ra x) []) (newRules f ra c xs),
-  cond-text (differs (c (x .register)) (x .kind) (x .value)) _ _ (rule-text f ra x),
-  new-text f ra c xs,
+new-text : (f ra : ℕ) (earlier : ℕ → List RegisterRule) (xs : List RegisterRule) → rulesText (newRules f ra earlier xs) ≡ rowRules f ra (seenBy earlier) xs
+unfolding newRules rowRules rulesText seenBy
+new-text f ra earlier [] = refl
+new-text f ra earlier (x ∷ xs) = rw (
+  rules-append (cond (ruleDiffers (earlier (x .register)) x) (ruleRules f ra x) []) (newRules f ra earlier xs),
+  cond-text (ruleDiffers (earlier (x .register)) x) _ _ (rule-text f ra x),
+  new-text f ra earlier xs,
+  rule-differs (earlier (x .register)) x,
 )
+
+-- whether the return register's rule changes, against what was seen before the row
+raMoves : ℕ → (ℕ → Seen) → List RegisterRule → Bool
+raMoves ra c [] = false
+raMoves ra c (x ∷ xs) = (eqb (x .register) ra && differs (c (x .register)) (x .kind) (x .value)) || raMoves ra c xs
 
 ra-free : (ra : ℕ) (c : ℕ → Seen) (x : RegisterRule) (xs : List RegisterRule) → member (x .register) (registers xs) ≡ false
-    → raDiffers ra (remember c x) xs ≡ raDiffers ra c xs
-unfolding raDiffers
-ra-free ra c x = free-ind x (λ ys. raDiffers ra (remember c x) ys ≡ raDiffers ra c ys) refl (λ y ys e i. rw (e, i))
+    → raMoves ra (remember c x) xs ≡ raMoves ra c xs
+unfolding raMoves
+ra-free ra c x = free-ind x (λ ys. raMoves ra (remember c x) ys ≡ raMoves ra c ys) refl (λ y ys e i. rw (e, i))
 
-ran-ra : (ra : ℕ) (c : ℕ → Seen) (xs : List RegisterRule) → T (once (registers xs)) → ranMoved ra c xs ≡ raDiffers ra c xs
-unfolding ranMoved raDiffers
+ran-ra : (ra : ℕ) (c : ℕ → Seen) (xs : List RegisterRule) → T (once (registers xs)) → ranMoved ra c xs ≡ raMoves ra c xs
+unfolding ranMoved raMoves
 ran-ra ra c [] h = refl
 ran-ra ra c (x ∷ xs) h = rw (ran-ra ra (remember c x) xs (once-rest x xs h), ra-free ra c x xs (once-free x xs h))
+
+moves-differs : (ra : ℕ) (earlier : ℕ → List RegisterRule) (xs : List RegisterRule) → raMoves ra (seenBy earlier) xs ≡ raDiffers ra earlier xs
+unfolding raMoves raDiffers seenBy
+moves-differs ra earlier [] = refl
+moves-differs ra earlier (x ∷ xs) = rw (rule-differs (earlier (x .register)) x, moves-differs ra earlier xs)
 
 -- ---- all rows
 
@@ -175,28 +234,30 @@ ran-ra ra c (x ∷ xs) h = rw (ran-ra ra (remember c x) xs (once-rest x xs h), r
 abbrev rowOnce : Row → Bool
 rowOnce w = once (registers (w .rules))
 
-row-ran : (e : Fde) (ds : List Row) (w : Row) → T (rowOnce w) → render false (dwarfRow e ds w) ≡ ranRow e (cfaBefore ds) (lastSaid ds) w
-unfolding ranRow ranOf dwarfRow
-row-ran e ds w h =
-    let cs : List Rule = cond (cfaDiffers (cfaBefore ds) (w .cfa)) (cfaRules (e .family) (w .cfa)) [] in
-    let ns : List Rule = newRules (e .family) (e .ra) (lastSaid ds) (w .rules) in
+row-ran : (b : List ℕ) (ds : List Row) (w : Row) → T (rowOnce w) → render false (dwarfRow b ds w) ≡ ranRow (fdeOf b) (cfaSeen (lastCfaRule ds)) (seenBy (lastRule ds)) w
+unfolding ranRow ranOf dwarfRow fdeOf
+row-ran b ds w h =
+    let cs : List Rule = cond (cfaChanges (lastCfaRule ds) (w .cfa)) (cfaRules (family b) (w .cfa)) [] in
+    let ns : List Rule = newRules (family b) (returnRegister b) (lastRule ds) (w .rules) in
     rw (
-      row-text e (w .start) (cs ++ ns) (raDiffers (e .ra) (lastSaid ds) (w .rules)),
+      row-text b (w .start) (cs ++ ns) (raDiffers (returnRegister b) (lastRule ds) (w .rules)),
       rules-append cs ns,
-      cond-text (cfaDiffers (cfaBefore ds) (w .cfa)) _ _ (cfa-text (e .family) (w .cfa)),
-      new-text (e .family) (e .ra) (lastSaid ds) (w .rules),
-      ran-row (e .family) (e .ra) (lastSaid ds) (w .rules) h,
-      ran-ra (e .ra) (lastSaid ds) (w .rules) h,
+      cond-text (cfaChanges (lastCfaRule ds) (w .cfa)) _ _ (cfa-text (family b) (w .cfa)),
+      new-text (family b) (returnRegister b) (lastRule ds) (w .rules),
+      ran-row (family b) (returnRegister b) (seenBy (lastRule ds)) (w .rules) h,
+      ran-ra (returnRegister b) (seenBy (lastRule ds)) (w .rules) h,
+      moves-differs (returnRegister b) (lastRule ds) (w .rules),
+      cfa-differs (lastCfaRule ds) (w .cfa),
     )
 
-rows-ran : (e : Fde) (ds : List Row) (s : CfaSeen) (c : ℕ → Seen) (ws : List Row) → s ≡ cfaBefore ds → c ≡ lastSaid ds → T (all rowOnce ws)
-    → render false (dwarfRows e ds ws) ≡ ranRows e s c ws
-unfolding ranRows dwarfRows render
-rows-ran e ds s c [] i j h = refl
-rows-ran e ds s c (w ∷ ws) i j h =
-    rw (i, j) (render-append false (dwarfRow e ds w) _ ∙ ap₂ (λ (s t : Bytes). s ++ t) (row-ran e ds w (and-l (rowOnce w) _ h))
-    (rows-ran e (ds ++ (w ∷ [])) (lastCfa (w .cfa)) (seenAfter (lastSaid ds) (w .rules)) ws (sym (cfa-snoc ds w))
-    (fun-ext λ r. after-said (lastSaid ds) (w .rules) r ∙ sym (said-snoc ds w r)) (and-r (rowOnce w) _ h)))
+rows-ran : (b : List ℕ) (ds : List Row) (s : CfaSeen) (c : ℕ → Seen) (ws : List Row) → s ≡ cfaSeen (lastCfaRule ds) → c ≡ seenBy (lastRule ds) → T (all rowOnce ws)
+    → render false (dwarfRows b ds ws) ≡ ranRows (fdeOf b) s c ws
+unfolding ranRows dwarfRows render cfaSeen
+rows-ran b ds s c [] i j h = refl
+rows-ran b ds s c (w ∷ ws) i j h =
+    rw (i, j) (render-append false (dwarfRow b ds w) _ ∙ ap₂ (λ (s t : Bytes). s ++ t) (row-ran b ds w (and-l (rowOnce w) _ h))
+    (rows-ran b (ds ++ (w ∷ [])) (lastCfa (w .cfa)) (seenAfter (seenBy (lastRule ds)) (w .rules)) ws (ap cfaSeen (sym (cfa-snoc ds w)))
+    (fun-ext λ r. after-row ds w r) (and-r (rowOnce w) _ h)))
 
 rows-once : (ws : List ℕ) (m a : ℕ) → T (rowsFit ws m a) → T (all rowOnce (rowsFrom ws m a))
 unfolding rowsFit rowsFrom
@@ -205,18 +266,26 @@ rows-once ws (suc m) a h =
     both (rowOnce (rowAt ws a)) _ (row-once ws a (and-l (rowFits ws a) _ h)) (rows-once ws m (nextRow ws a) (and-r (rowFits ws a) _ h))
 
 -- the text as it is run is the rendering of the lines
-pub dwarf-text : (ws : List ℕ) → T (rowsFit ws (rowCount ws) 7) → dwarfText ws ≡ render false (dwarfRows (fdeOf ws) [] (rows ws))
-unfolding dwarfText rows nothingSeen lastSaid cfaBefore
-dwarf-text ws h = sym (rows-ran (fdeOf ws) [] noCfa nothingSeen (rows ws) refl refl (rows-once ws (rowCount ws) 7 h))
+pub dwarf-text : (b : List ℕ) → T (rowsFit b (rowCount b) 7) → dwarfText b ≡ render false (dwarfLines b)
+unfolding dwarfText dwarfLines rows nothingSeen lastRule lastCfaRule seenBy orSeen cfaSeen
+dwarf-text b h = sym (rows-ran b [] noCfa nothingSeen (rows b) refl refl (rows-once b (rowCount b) 7 h))
 
-pub dwarf-entry-text : (last : Last) (ws : List ℕ) → dwarfEntry last ws .text ≡ render false (dwarfLines ws)
-unfolding dwarfEntry dwarfLines
-dwarf-entry-text last ws = go (dwarfJudged ws) refl
+-- ---- an entry that is not refused: its text is that of its lines, unless it is skipped
+
+reached : (b : List ℕ) → eqb (dwarfReach b) 0 ≡ false → dwarfReach b ≡ 0 → ⊥
+reached b e z = false≢true (sym e ∙ eq-eqb (dwarfReach b) 0 z)
+
+pub dwarf-accepted : (last : Last) (b : List ℕ) → dwarfEntry last b .number ≡ 0 → Accepted (dwarfLayout b) (dwarfSkipped b) (dwarfJudged b) (dwarfText b) last last
+unfolding dwarfEntry dwarfJudged
+dwarf-accepted last b = accepted (dwarfLayout b) (dwarfSkipped b) (eqb (dwarfReach b) 0) (dwarfReach b) (dwarfText b) last last (reached b)
+
+pub dwarf-entry-text : (last : Last) (b : List ℕ) → dwarfEntry last b .number ≡ 0 → dwarfEntry last b .text ≡ render false (cond (dwarfSkipped b) [] (dwarfLines b))
+unfolding dwarfEntry
+dwarf-entry-text last b e = let a = dwarf-accepted last b e in a .text-is ∙ go (dwarfSkipped b) (dwarf-text b (layout-rows b (a .keeps)))
   where
-    go : (j : Judged) → dwarfJudged ws ≡ j → comesTo j (dwarfText ws) last last .text ≡ render false (ifWritten j (dwarfRows (fdeOf ws) [] (rows ws)))
-    go (Refuse n) e = render-none false
-    go Skip e = render-none false
-    go Write e = dwarf-text ws (layout-rows ws (written ws e))
+    go : (t : Bool) → dwarfText b ≡ render false (dwarfLines b) → cond t [] (dwarfText b) ≡ render false (cond t [] (dwarfLines b))
+    go true h = render-none false
+    go false h = h
 
 -- ---- the lines are well formed
 
@@ -251,11 +320,11 @@ rule-ok f ra x = named-ok (cond (eqb (x .register) ra) (ascii ".ra") (cfiName f 
     go true = tt
     go false = name-ok f (x .register)
 
-new-ok : (f ra : ℕ) (said : ℕ → Seen) (xs : List RegisterRule) → T (all ruleOk (newRules f ra said xs))
+new-ok : (f ra : ℕ) (earlier : ℕ → List RegisterRule) (xs : List RegisterRule) → T (all ruleOk (newRules f ra earlier xs))
 unfolding newRules
-new-ok f ra said [] = tt
-new-ok f ra said (x ∷ xs) = all-append ruleOk (cond (differs (said (x .register)) (x .kind) (x .value)) (ruleRules f ra x) []) _
-    (either (all ruleOk) (differs (said (x .register)) (x .kind) (x .value)) (ruleRules f ra x) [] (rule-ok f ra x) tt) (new-ok f ra said xs)
+new-ok f ra earlier [] = tt
+new-ok f ra earlier (x ∷ xs) = all-append ruleOk (cond (ruleDiffers (earlier (x .register)) x) (ruleRules f ra x) []) _
+    (either (all ruleOk) (ruleDiffers (earlier (x .register)) x) (ruleRules f ra x) [] (rule-ok f ra x) tt) (new-ok f ra earlier xs)
 
 plus-ok : (n : Bytes) (z : ℤ) → T (registerOk n) → T (all ruleOk (cfaPlusRules n z))
 unfolding cfaPlusRules
@@ -270,43 +339,38 @@ ra-ok : (f ra : ℕ) → T (all ruleOk (raRules f ra))
 unfolding raRules
 ra-ok f ra = named-ok (ascii ".ra") (cond (leb 3 f && leb f 9) (nameForm (cfiName f ra)) []) tt (either (all formOk) (leb 3 f && leb f 9) (nameForm (cfiName f ra)) [] (name-form-ok _ (cfi-ok f ra)) tt)
 
-default-ok : (e : Fde) (start : ℕ) (moved : Bool) → T (all ruleOk (defaultRules e start moved))
+default-ok : (b : List ℕ) (start : ℕ) (moved : Bool) → T (all ruleOk (defaultRules b start moved))
 unfolding defaultRules
-default-ok e start moved = either (all ruleOk) (eqb start (e .start) && not moved) (raRules (e .family) (e .ra)) [] (ra-ok (e .family) (e .ra)) tt
+default-ok b start moved = either (all ruleOk) (eqb start (first b) && not moved) (raRules (family b) (returnRegister b)) [] (ra-ok (family b) (returnRegister b)) tt
 
-line-ok : (e : Fde) (start : ℕ) (rs : List Rule) → T (all ruleOk rs) → T (lineOk (lineOf e start rs))
+line-ok : (b : List ℕ) (start : ℕ) (rs : List Rule) → T (all ruleOk rs) → T (lineOk (lineOf b start rs))
 unfolding lineOf
-line-ok e start rs h = go (eqb start (e .start))
+line-ok b start rs h = go (eqb start (first b))
   where
-    go : (t : Bool) → T (lineOk (cond t (init (start - e .load) (e .length) rs) (later (start - e .load) rs)))
+    go : (t : Bool) → T (lineOk (cond t (init (start - loadAddress b) (endOf (rows b) - first b) rs) (later (start - loadAddress b) rs)))
     go true = h
     go false = h
 
-row-line-ok : (e : Fde) (start : ℕ) (rs : List Rule) (moved : Bool) → T (all ruleOk rs) → T (all lineOk (rowLine e start rs moved))
+row-line-ok : (b : List ℕ) (start : ℕ) (rs : List Rule) (moved : Bool) → T (all ruleOk rs) → T (all lineOk (rowLine b start rs moved))
 unfolding rowLine
-row-line-ok e start [] moved h = tt
-row-line-ok e start (r ∷ rs) moved h =
-    both (lineOk (lineOf e start ((r ∷ rs) ++ defaultRules e start moved))) true
-    (line-ok e start ((r ∷ rs) ++ defaultRules e start moved) (all-append ruleOk (r ∷ rs) (defaultRules e start moved) h (default-ok e start moved))) tt
+row-line-ok b start [] moved h = tt
+row-line-ok b start (r ∷ rs) moved h =
+    both (lineOk (lineOf b start ((r ∷ rs) ++ defaultRules b start moved))) true
+    (line-ok b start ((r ∷ rs) ++ defaultRules b start moved) (all-append ruleOk (r ∷ rs) (defaultRules b start moved) h (default-ok b start moved))) tt
 
-row-ok : (e : Fde) (ds : List Row) (w : Row) → T (all lineOk (dwarfRow e ds w))
+row-ok : (b : List ℕ) (ds : List Row) (w : Row) → T (all lineOk (dwarfRow b ds w))
 unfolding dwarfRow
-row-ok e ds w =
-    let cs : List Rule = cond (cfaDiffers (cfaBefore ds) (w .cfa)) (cfaRules (e .family) (w .cfa)) [] in
-    row-line-ok e (w .start) (cs ++ newRules (e .family) (e .ra) (lastSaid ds) (w .rules)) (raDiffers (e .ra) (lastSaid ds) (w .rules))
-    (all-append ruleOk cs _ (either (all ruleOk) (cfaDiffers (cfaBefore ds) (w .cfa)) (cfaRules (e .family) (w .cfa)) [] (cfa-ok (e .family) (w .cfa)) tt)
-    (new-ok (e .family) (e .ra) (lastSaid ds) (w .rules)))
+row-ok b ds w =
+    let cs : List Rule = cond (cfaChanges (lastCfaRule ds) (w .cfa)) (cfaRules (family b) (w .cfa)) [] in
+    row-line-ok b (w .start) (cs ++ newRules (family b) (returnRegister b) (lastRule ds) (w .rules)) (raDiffers (returnRegister b) (lastRule ds) (w .rules))
+    (all-append ruleOk cs _ (either (all ruleOk) (cfaChanges (lastCfaRule ds) (w .cfa)) (cfaRules (family b) (w .cfa)) [] (cfa-ok (family b) (w .cfa)) tt)
+    (new-ok (family b) (returnRegister b) (lastRule ds) (w .rules)))
 
-rows-ok : (e : Fde) (ds ws : List Row) → T (all lineOk (dwarfRows e ds ws))
+rows-ok : (b : List ℕ) (ds ws : List Row) → T (all lineOk (dwarfRows b ds ws))
 unfolding dwarfRows
-rows-ok e ds [] = tt
-rows-ok e ds (w ∷ ws) = all-append lineOk (dwarfRow e ds w) _ (row-ok e ds w) (rows-ok e (ds ++ (w ∷ [])) ws)
+rows-ok b ds [] = tt
+rows-ok b ds (w ∷ ws) = all-append lineOk (dwarfRow b ds w) _ (row-ok b ds w) (rows-ok b (ds ++ (w ∷ [])) ws)
 
-pub dwarf-entry-ok : (ws : List ℕ) → T (all lineOk (dwarfLines ws))
+pub dwarf-entry-ok : (b : List ℕ) → T (all lineOk (dwarfLines b))
 unfolding dwarfLines
-dwarf-entry-ok ws = go (dwarfJudged ws)
-  where
-    go : (j : Judged) → T (all lineOk (ifWritten j (dwarfRows (fdeOf ws) [] (rows ws))))
-    go (Refuse n) = tt
-    go Skip = tt
-    go Write = rows-ok (fdeOf ws) [] (rows ws)
+dwarf-entry-ok b = rows-ok b [] (rows b)

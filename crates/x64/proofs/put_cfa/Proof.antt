@@ -7,7 +7,7 @@ use Rattle.text.specs.Text.Laws.{put-as}
 use Rattle.names.specs.Names.{peName}
 use Rattle.lines.specs.Rules.{ruleOf, ruleName, regName, formOf}
 use Rattle.x64.specs.X64.{cfaText}
-use Rattle.x64.specs.Sense.Laws.{cfa-rule}
+use Rattle.x64.specs.Index.{cfa-rule}
 use borrow.Author.Needs.{needs}
 use Rattle.x64.proofs.put_cfa.Statement.{statement}
 use Rattle.x64.proofs.put_cfa.Tie as tie

@@ -7,7 +7,7 @@ use Rattle.text.specs.Text.Laws.{put-as}
 use Rattle.names.specs.Names.{peName}
 use Rattle.lines.specs.Rules.{ruleOf, ruleName, regName, formOf}
 use Rattle.x64.specs.X64.{framedText}
-use Rattle.x64.specs.Sense.Laws.{framed-rule}
+use Rattle.x64.specs.Index.{framed-rule}
 use borrow.Author.Needs.{needs}
 use Rattle.x64.proofs.put_framed.Statement.{statement}
 use Rattle.x64.proofs.put_framed.Tie as tie

@@ -8,7 +8,7 @@ use Rattle.text.specs.Text.Laws.{put-as}
 use Rattle.lines.specs.Rules.{ruleOf, ruleName, formOf}
 use Rattle.lines.specs.Lines.Laws.{sub-none}
 use Rattle.x64.specs.X64.{savedText}
-use Rattle.x64.specs.Sense.Laws.{saved-rule}
+use Rattle.x64.specs.Index.{saved-rule}
 use borrow.Author.Needs.{needs}
 use Rattle.x64.proofs.put_return.Statement.{statement}
 use Rattle.x64.proofs.put_return.Tie as tie

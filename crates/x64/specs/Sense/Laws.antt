@@ -4,26 +4,27 @@ use Prim.Native.Nat.{ℕ, _+_, _-_, _*_}
 use native.Mathlib.Nat.{add-assoc}
 use native.Mathlib.Numerals.{add-one}
 use native.Mathlib.Omega.{arith}
-use mathlib.Core.Bool.{Bool, true, false}
+use borrow.Author.Tests.{eq-eqb, ne-eqb}
+use mathlib.Core.Bool.{Bool, true, false, not, cond, false≢true}
 use mathlib.Core.List.{List, [], _∷_, _++_, map, append-nil, append-assoc, map-append}
 use lib.ListN.{length, getD, take, length-append}
 use lib.Seq.{take-append-seam, getD-append-seam, append-snoc}
-use lib.IntN.{ℤ, pos, subℕ}
-use lib.Dec.{T}
+use lib.IntN.{pos, subℕ}
+use lib.Dec.{T, eqb}
 use Rattle.text.specs.Text.{ascii}
 use Rattle.text.specs.Tests.{is-true, all, all-append, and-l, both}
-use Rattle.text.specs.Digits.{hex, signed}
+use Rattle.text.specs.Digits.{hex}
 use Rattle.names.specs.Names.{peName}
-use Rattle.lines.specs.Lines.{Bytes, Form, registerPlus, atRegisterPlus, atCfaMinus, rule, init, cfa, formText, ruleText, rulesText, initText, lineText, render, nameOk, registerOk, formOk, ruleOk, lineOk}
-use Rattle.lines.specs.Lines.Laws.{rules-append, render-none, row}
+use Rattle.lines.specs.Lines.{Bytes, Form, registerPlus, atCfaMinus, rule, init, cfa, ruleText, rulesText, initText, lineText, render, nameOk, registerOk, formOk, ruleOk, lineOk}
+use Rattle.lines.specs.Lines.Laws.{rules-append, render-none}
 use Rattle.lines.specs.Rules.Laws.{pe-ok}
-use Rattle.entry.specs.declared.Judged.{Judged}
-use Rattle.entry.specs.declared.Judged.the-variants.{Refuse, Skip, Write}
 use Rattle.entry.specs.declared.Last.{Last}
-use Rattle.entry.specs.Entry.{comesTo, ifWritten, word}
+use Rattle.entry.specs.Entry.{word}
+use Rattle.entry.specs.Entry.Laws.{Accepted, accepted}
 use Rattle.x64.specs.declared.Op.{Op}
 use Rattle.x64.specs.declared.Op.the-variants.{PushNonVolatile, Alloc, SaveRsp, SaveFp, SetFpRegister, PushMachineFrame, Other, Undecodable}
-use Rattle.x64.specs.X64.{chain, isMachine, anyMachine, x64Judged, growthOf, run, total, savedText, framedText, machineText, opText, cfaText, setText, cfaOr, raText, rulesRun, x64Text, isSet, setCount, x64Entry}
+use Rattle.x64.specs.X64.{chain, isMachine, anyMachine, x64Layout, x64Skipped, x64Reach, x64Judged, growthOf, run, total, savedText, machineText, opText, setText, cfaOr, raText, rulesRun, x64Text, isSet, setCount, x64Entry}
+use Rattle.x64.specs.Index.{saved-rule, framed-rule, cfa-rule}
 use Rattle.x64.specs.Sense.{opRules, opCfa, cfaForm, raRules, addedBy, sum, each, sums, x64Rules, x64Line, x64Lines, pushes, allocations, machineFrames, errorCodes}
 
 -- ---- sums against the running total
@@ -64,18 +65,6 @@ sum-total S [] = omega arith
 sum-total S (o ∷ os) = rw (← sum-total (S + growthOf o) os, ← added-growth o) (omega arith)
 
 -- ---- the text as it is run is the rendering of the line
-
-pub saved-rule : (n : Bytes) (z : ℤ) → ruleText (rule n (atCfaMinus z)) ≡ savedText n z
-unfolding ruleText formText savedText
-saved-rule n z = refl
-
-pub framed-rule : (n r : Bytes) (z : ℤ) → ruleText (rule n (atRegisterPlus r z)) ≡ framedText n r z
-unfolding ruleText formText framedText
-framed-rule n r z = row (ascii " " ++ n ++ ascii ": ") r (ascii " ") (signed z) (ascii " + ^")
-
-pub cfa-rule : (r : Bytes) (z : ℤ) → ruleText (rule cfa (registerPlus r z)) ≡ cfaText r z
-unfolding ruleText formText cfaText
-cfa-rule r z = row (ascii " .cfa: ") r (ascii " ") (signed z) (ascii " +")
 
 op-text : (S : ℕ) (o : Op) → rulesText (opRules S o) ≡ opText S o
 unfolding opRules opText machineText rulesText
@@ -118,20 +107,38 @@ unfolding cfaForm cfaOr
 cfa-text [] S = cfa-rule (ascii "$rsp") (pos S)
 cfa-text (f ∷ fs) S = refl
 
-ra-text : (machine : Bool) → rulesText (raRules machine) ≡ raText machine
+none-more : (t : Bool) (n : ℕ) → t ≡ not (eqb n 0) → t ≡ not (eqb (0 + n) 0)
+none-more t n e = let z : 0 + n ≡ n = omega arith in rw z e
+
+machine-counted : (os : List Op) → anyMachine os ≡ not (eqb (machineFrames os) 0)
+unfolding anyMachine isMachine machineFrames
+machine-counted [] = refl
+machine-counted (PushNonVolatile r ∷ os) = none-more (anyMachine os) (machineFrames os) (machine-counted os)
+machine-counted (Alloc v ∷ os) = none-more (anyMachine os) (machineFrames os) (machine-counted os)
+machine-counted (SaveRsp r v ∷ os) = none-more (anyMachine os) (machineFrames os) (machine-counted os)
+machine-counted (SaveFp r v f o ∷ os) = none-more (anyMachine os) (machineFrames os) (machine-counted os)
+machine-counted (SetFpRegister f o ∷ os) = none-more (anyMachine os) (machineFrames os) (machine-counted os)
+machine-counted (PushMachineFrame code ∷ os) = rw (ne-eqb (1 + machineFrames os) 0 (λ e. omega arith))
+machine-counted (Other ∷ os) = none-more (anyMachine os) (machineFrames os) (machine-counted os)
+machine-counted (Undecodable ∷ os) = none-more (anyMachine os) (machineFrames os) (machine-counted os)
+
+ra-text : (os : List Op) → rulesText (raRules os) ≡ raText (anyMachine os)
 unfolding raRules raText rulesText
-ra-text true = refl
-ra-text false = append-nil _ ∙ saved-rule (ascii ".ra") (pos 8)
+ra-text os = rw (machine-counted os) (go (eqb (machineFrames os) 0))
+  where
+    go : (t : Bool) → rulesText (cond t (rule (ascii ".ra") (atCfaMinus (pos 8)) ∷ []) []) ≡ cond (not t) [] (savedText (ascii ".ra") (pos 8))
+    go true = append-nil _ ∙ saved-rule (ascii ".ra") (pos 8)
+    go false = refl
 
 rules-text : (os : List Op) → rulesText (x64Rules os) ≡ rulesRun os
 unfolding x64Rules rulesRun rulesText
 rules-text os = rw (
-  rules-append (sums opRules os) (raRules (anyMachine os)),
+  rules-append (sums opRules os) (raRules os),
   sums-run opRules os,
   sums-run opCfa os,
   sum-total 8 os,
   ops-text 8 os,
-  ra-text (anyMachine os),
+  ra-text os,
   cfa-text (run opCfa 8 os) (total 8 os),
   sets-text 8 os,
 ) (sym (append-assoc (cfaOr (run setText 8 os) (total 8 os)) (run opText 8 os) (raText (anyMachine os))))
@@ -182,35 +189,39 @@ unfolding x64Line x64Rules cfaForm raRules
 x64-ok ws =
     let os = chain ws in
     both (formOk (cfaForm (sums opCfa os) (8 + sum os))) _ (first (sums opCfa os) (8 + sum os) (rw (sums-run opCfa os) (run-ok formOk opCfa cfa-ok 8 os)))
-    (all-append ruleOk (sums opRules os) (raRules (anyMachine os)) (rw (sums-run opRules os) (run-ok ruleOk opRules op-ok 8 os)) (last (anyMachine os)))
+    (all-append ruleOk (sums opRules os) (raRules os) (rw (sums-run opRules os) (run-ok ruleOk opRules op-ok 8 os)) (last (eqb (machineFrames os) 0)))
   where
     first : (fs : List Form) (S : ℕ) → T (all formOk fs) → T (formOk (cfaForm fs S))
     first [] S h = tt
     first (f ∷ fs) S h = and-l (formOk f) _ h
 
-    last : (t : Bool) → T (all ruleOk (raRules t))
+    last : (t : Bool) → T (all ruleOk (cond t (rule (ascii ".ra") (atCfaMinus (pos 8)) ∷ []) []))
     last true = tt
     last false = tt
 
--- ---- an entry's lines
+-- ---- an entry that is not refused: its text is that of its line, unless it is skipped
 
-pub x64-entry-text : (limit : ℕ) (last : Last) (ws : List ℕ) → x64Entry limit last ws .text ≡ render false (x64Lines limit ws)
+reached : (limit : ℕ) (ws : List ℕ) → eqb (x64Reach limit ws) 0 ≡ false → x64Reach limit ws ≡ 0 → ⊥
+reached limit ws e z = false≢true (sym e ∙ eq-eqb (x64Reach limit ws) 0 z)
+
+pub x64-accepted : (limit : ℕ) (last : Last) (ws : List ℕ) → x64Entry limit last ws .number ≡ 0
+    → Accepted (x64Layout ws) (x64Skipped limit ws) (x64Judged limit ws) (x64Text ws) last last
+unfolding x64Entry x64Judged
+x64-accepted limit last ws =
+    accepted (x64Layout ws) (x64Skipped limit ws) (eqb (x64Reach limit ws) 0) (x64Reach limit ws) (x64Text ws) last last (reached limit ws)
+
+pub x64-entry-text : (limit : ℕ) (last : Last) (ws : List ℕ) → x64Entry limit last ws .number ≡ 0
+    → x64Entry limit last ws .text ≡ render false (cond (x64Skipped limit ws) [] (x64Lines ws))
 unfolding x64Entry x64Lines
-x64-entry-text limit last ws = go (x64Judged limit ws)
+x64-entry-text limit last ws e = x64-accepted limit last ws e .text-is ∙ go (x64Skipped limit ws)
   where
-    go : (j : Judged) → comesTo j (x64Text ws) last last .text ≡ render false (ifWritten j (x64Line ws ∷ []))
-    go (Refuse n) = render-none false
-    go Skip = render-none false
-    go Write = x64-text ws
+    go : (t : Bool) → cond t [] (x64Text ws) ≡ render false (cond t [] (x64Line ws ∷ []))
+    go true = render-none false
+    go false = x64-text ws
 
-pub x64-entry-ok : (limit : ℕ) (ws : List ℕ) → T (all lineOk (x64Lines limit ws))
+pub x64-entry-ok : (ws : List ℕ) → T (all lineOk (x64Lines ws))
 unfolding x64Lines
-x64-entry-ok limit ws = go (x64Judged limit ws)
-  where
-    go : (j : Judged) → T (all lineOk (ifWritten j (x64Line ws ∷ [])))
-    go (Refuse n) = tt
-    go Skip = tt
-    go Write = both (lineOk (x64Line ws)) true (x64-ok ws) tt
+x64-entry-ok ws = both (lineOk (x64Line ws)) true (x64-ok ws) tt
 
 -- ---- the law of the CFA
 
@@ -244,6 +255,6 @@ no-set S (Undecodable ∷ os) h = no-set (S + growthOf Undecodable) os (omega ar
 pub cfa-law : (ws : List ℕ) → setCount (chain ws) ≡ 0
     → x64Line ws ≡ init (word ws 0) (word ws 1 - word ws 0)
     (rule cfa (registerPlus (ascii "$rsp") (pos (8 + (8 * pushes (chain ws) + allocations (chain ws) + 40 * machineFrames (chain ws) + 8 * errorCodes (chain ws)))))
-    ∷ (sums opRules (chain ws) ++ raRules (anyMachine (chain ws))))
+    ∷ (sums opRules (chain ws) ++ raRules (chain ws)))
 unfolding x64Line x64Rules cfaForm
 cfa-law ws h = rw (sums-run opCfa (chain ws), no-set 8 (chain ws) h, sum-counts (chain ws))
