@@ -1,9 +1,10 @@
 //! Holds the documents to the sources: every name in the tables of ARCHITECTURE.md and PROOFS.md stands in the code, the definitions or the proofs,
 //! every law in the file beside it, and every file that they name is there; every public function has a row, every must-fail edit and planted fault
-//! is named, and none that is not there; every link leads to a file.
+//! is named, and none that is not there; what has to be believed is listed (reach.rs); every link leads to a file.
 //!
 //! Run from the repository's root. The last line is 'N passed, M failed'.
 
+mod reach;
 mod tally;
 
 use std::collections::{BTreeMap, BTreeSet};
@@ -90,15 +91,19 @@ fn paths(t: &mut Tally, page: &str, text: &str, crates: &BTreeMap<String, BTreeS
     }
 }
 
-/// Every law stands in the file beside it: 'CRATE/specs/FILE', or 'CRATE, CRATE and CRATE: specs/FILE'.
+/// The files of a cell, under crates/: 'CRATE/specs/FILE, CRATE/specs/FILE', or 'CRATE, CRATE and CRATE: specs/FILE'.
+fn places(cell: &str) -> Vec<String> {
+    match cell.split_once(": ") {
+        Some((crates, file)) => crates.replace(" and ", ", ").split(", ").map(|c| format!("{c}/{file}")).collect(),
+        None => cell.split(", ").map(str::to_string).collect(),
+    }
+}
+
+/// Every law stands in the file beside it.
 fn laws(t: &mut Tally, proofs: &str) {
     for table in tables(proofs).iter().filter(|x| x[0][0] == "law") {
         for row in &table[1..] {
-            let paths: Vec<String> = match row[2].split_once(": ") {
-                Some((crates, file)) => crates.replace(" and ", ", ").split(", ").map(|c| format!("crates/{c}/{file}")).collect(),
-                None => vec![format!("crates/{}", row[2])],
-            };
-            for path in paths {
+            for path in places(row[2]).iter().map(|p| format!("crates/{p}")) {
                 let stands = fs::read_to_string(&path).map(|s| names(&s)).unwrap_or_default();
                 for law in quoted(row[0]) {
                     let operator = format!("_{law}_");
@@ -109,10 +114,11 @@ fn laws(t: &mut Tally, proofs: &str) {
     }
 }
 
-/// The public functions of a library, each as CRATE::FUNCTION or CRATE::TYPE::FUNCTION.
-fn public(library: &str, source: &str) -> Vec<String> {
-    let mut found = Vec::new();
+/// The public functions of a library, each as CRATE::FUNCTION or CRATE::TYPE::FUNCTION, with its contract.
+fn public(library: &str, source: &str) -> Vec<(String, String)> {
+    let mut found: Vec<(String, String)> = Vec::new();
     let mut of = String::new();
+    let mut before_body = false;
     for line in source.lines() {
         if let Some(rest) = line.strip_prefix("impl ") {
             of = format!("{}::", rest.split(' ').next().unwrap_or(""));
@@ -121,8 +127,16 @@ fn public(library: &str, source: &str) -> Vec<String> {
         }
         for head in ["pub fn ", "pub extern \"C\" fn "] {
             if let Some(rest) = line.trim_start().strip_prefix(head) {
-                found.push(format!("{library}::{of}{}", rest.split('(').next().unwrap_or("")));
+                found.push((format!("{library}::{of}{}", rest.split('(').next().unwrap_or("")), String::new()));
+                before_body = true;
             }
+        }
+        let clause = ["requires", "ensures"].iter().any(|w| line.trim_start().starts_with(w));
+        let Some((_, contract)) = found.last_mut().filter(|_| before_body) else { continue };
+        if clause || (!contract.is_empty() && line.trim() != "{") {
+            *contract += &format!("{line}\n");
+        } else if line.ends_with('{') {
+            before_body = false;
         }
     }
     found
@@ -151,7 +165,7 @@ fn contracts(t: &mut Tally, proofs: &str, crates: &BTreeMap<String, BTreeSet<Str
     }
     for (library, edits) in crates {
         let path = format!("crates/{library}/src/lib.rt");
-        for function in fs::read_to_string(path).map(|s| public(library, &s)).unwrap_or_default() {
+        for (function, _) in fs::read_to_string(path).map(|s| public(library, &s)).unwrap_or_default() {
             t.check(rows.contains(&function), &format!("PROOFS.md: `{function}` has no row"));
         }
         for edit in edits {
@@ -210,6 +224,7 @@ fn main() {
         paths(&mut t, page, &text, &crates);
     }
     laws(&mut t, &proofs);
+    reach::believed(&mut t, &proofs);
     contracts(&mut t, &proofs, &crates);
     faults(&mut t, &read("docs/FAULTS.md"));
     for path in files(Path::new("docs"), ".md").iter().chain(&[PathBuf::from("README.md")]) {
