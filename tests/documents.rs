@@ -1,6 +1,6 @@
 //! Holds the documents to the sources: every name in the tables of ARCHITECTURE.md and PROOFS.md stands in the code, the definitions or the proofs,
 //! every law in the file beside it, and every file that they name is there; every public function has a row, every must-fail edit and planted fault
-//! is named, and none that is not there; what has to be believed is listed (reach.rs); every link leads to a file.
+//! is named, and none that is not there; what has to be believed is listed (reach.rs), and what a sense shares with the text; every link leads to a file.
 //!
 //! Run from the repository's root. The last line is 'N passed, M failed'.
 
@@ -190,6 +190,34 @@ fn faults(t: &mut Tally, page: &str) {
     }
 }
 
+/// The names that a file has of the kinds' and the call's definitions, but for those of the code's types and of other senses.
+fn taken(text: &str) -> BTreeSet<String> {
+    let uses = text.lines().filter_map(|l| l.strip_prefix("use Rattle·")).filter_map(|l| l.trim_end_matches('}').split_once(".{"));
+    let kinds = uses.filter(|(m, _)| ["x64", "arm64", "dwarf", "pdb", "translate"].iter().any(|c| m.split(['·', '.']).next() == Some(c)));
+    let others = kinds.filter(|(m, _)| !m.contains("specs.declared") && !m.contains("specs.Sense"));
+    others.flat_map(|(_, names)| names.split(", ")).map(str::to_string).collect()
+}
+
+/// A sense has of the text's definitions the names in its row, and no others; neither the text nor the code has anything of a sense.
+fn shared(t: &mut Tally, proofs: &str) {
+    let mut rows = BTreeSet::new();
+    for row in tables(proofs).iter().filter(|x| x[0] == ["sense", "shares with the text"]).flat_map(|x| &x[1..]) {
+        let listed: BTreeSet<String> = quoted(row[1]).into_iter().map(str::to_string).collect();
+        let found = taken(&read(Path::new("crates").join(row[0])));
+        t.check(listed == found, &format!("PROOFS.md: {} shares {found:?} with the text, its row has {listed:?}", row[0]));
+        rows.insert(Path::new("crates").join(row[0]));
+    }
+    for path in files(Path::new("crates"), "specs/Sense.antt") {
+        t.check(rows.contains(&path), &format!("PROOFS.md: what {} shares with the text has no row", path.display()));
+        let folder = path.ancestors().nth(2).expect("a crate");
+        for other in files(folder, ".antt").into_iter().chain(files(folder, ".rt")) {
+            let of_sense = ["specs/Sense", "specs/Worked"].iter().any(|s| other.starts_with(folder.join(s)) || other == folder.join(format!("{s}.antt")));
+            let free = of_sense || !read(&other).contains("specs.Sense");
+            t.check(free, &format!("{}: text and code use nothing of a sense", other.display()));
+        }
+    }
+}
+
 /// Every link to a file of the repository leads to one.
 fn links(t: &mut Tally, path: &Path, page: &str) {
     for target in page.split("](").skip(1).map(|s| s.split(')').next().unwrap_or("")) {
@@ -226,6 +254,7 @@ fn main() {
     laws(&mut t, &proofs);
     reach::believed(&mut t, &proofs);
     contracts(&mut t, &proofs, &crates);
+    shared(&mut t, &proofs);
     faults(&mut t, &read("docs/FAULTS.md"));
     for path in files(Path::new("docs"), ".md").iter().chain(&[PathBuf::from("README.md")]) {
         links(&mut t, path, &read(path));

@@ -3,7 +3,7 @@
 -- A kind adds one case to `entry-text`, `entry-next`, `entry-ok` and `entry-judged`.
 use mathlib.Core.Logic.{_↔_}
 use mathlib.Core.Path.{_≡_, refl, sym, ap, _∙_}
-use mathlib.Core.List.{List, [], _∷_, _++_, append-nil, append-assoc}
+use mathlib.Core.List.{List, [], _∷_, _++_, append-nil, append-assoc, reverse, reverseAux}
 use mathlib.Core.Bool.{Bool, true, false, cond}
 use Prim.Native.Nat.{ℕ, zero, suc, _+_, _-_, _*_, _<_}
 use native.Mathlib.Omega.{arith}
@@ -59,7 +59,7 @@ abbrev entry : ℕ → ℕ → List (List ℕ) → List ℕ → Entry
 entry k l ds b = entryOf k l (left k ds) b
 
 -- how it is judged
-unfoldable pub judgedOf : ℕ → ℕ → List (List ℕ) → List ℕ → Judged
+judgedOf : ℕ → ℕ → List (List ℕ) → List ℕ → Judged
 judgedOf k l ds b = chosen (eqb k 2) (eqb k 3) (eqb k 4) (armJudged b) (dwarfJudged b) (pdbJudged (lastUnskipped ds) b) (x64Judged l b)
 
 module _ (l : ℕ) (ds : List (List ℕ)) (b : List ℕ) where
@@ -184,9 +184,15 @@ translated b l w t = go (ltb (length w) AREA) (ltb MOST-LIMIT l) (contentsOk b)
     go false false false e = absurd (omega arith)
 
 -- each of these bodies is judged to be written, but for those that are skipped; ds come before them, latest first
-unfoldable pub Judges : ℕ → ℕ → List (List ℕ) → List (List ℕ) → Type 0
+Judges : ℕ → ℕ → List (List ℕ) → List (List ℕ) → Type 0
 Judges k l ds [] = Unit {0}
 Judges k l ds (b ∷ bs) = (judgedOf k l ds b ≡ cond (skipped k l ds b) Skip Write) × Judges k l (b ∷ ds) bs
+
+judged-at : (k l : ℕ) (ds xs : List (List ℕ)) (x : List ℕ) (ys : List (List ℕ)) → Judges k l ds (xs ++ (x ∷ ys))
+    → judgedOf k l (reverseAux xs ds) x ≡ cond (skipped k l (reverseAux xs ds) x) Skip Write
+unfolding Judges
+judged-at k l ds [] x ys j = j .0
+judged-at k l ds (y ∷ xs) x ys j = judged-at k l (y ∷ ds) xs x ys (j .1)
 
 -- every book that is translated
 module _ (b : List ℕ) (l : ℕ) (w t : List ℕ) (h : outcome b l w t .number ≡ 0) where
@@ -225,10 +231,22 @@ module _ (b : List ℕ) (l : ℕ) (w t : List ℕ) (h : outcome b l w t .number 
   pub text-read : read (textOf (outcome b l w t)) ≡ sense b l
   text-read = ap read text-is ∙ read-render (sixSpaces (kind b)) (sense b l) sense-ok
 
-  -- every body is written but for those that are skipped
-  pub only-skipped : Judges (kind b) l [] (bodies b)
+  judges : Judges (kind b) l [] (bodies b)
   unfolding Judges
-  only-skipped = walk-all (kind b) l (length t) (λ ds bs. Judges (kind b) l ds bs) (λ ds. tt) (λ ds x xs e k. (entry-judged (kind b) l ds x e, k)) [] (bodies b) 0 [] none-refused
+  judges = walk-all (kind b) l (length t) (λ ds bs. Judges (kind b) l ds bs) (λ ds. tt) (λ ds x xs e k. (entry-judged (kind b) l ds x e, k)) [] (bodies b) 0 [] none-refused
+
+  -- every body that is not skipped is judged to be written: nothing but skipping keeps a body out of the sense, and out of the text
+  pub only-skipped : (i : ℕ) → i < count b → skipped (kind b) l (reverse (take i (bodies b))) (body b i) ≡ false
+      → (kind b ≡ 1 → x64Judged l (body b i) ≡ Write)
+      × (kind b ≡ 2 → armJudged (body b i) ≡ Write)
+      × (kind b ≡ 3 → dwarfJudged (body b i) ≡ Write)
+      × (kind b ≡ 4 → pdbJudged (lastUnskipped (reverse (take i (bodies b)))) (body b i) ≡ Write)
+  unfolding judgedOf
+  only-skipped i h s =
+      let j : Judges (kind b) l [] (take i (bodies b) ++ (body b i ∷ drop (suc i) (bodies b))) = rw (bodies-at b i h) at judges in
+      let e : judgedOf (kind b) l (reverse (take i (bodies b))) (body b i) ≡ Write
+      = judged-at (kind b) l [] (take i (bodies b)) (body b i) (drop (suc i) (bodies b)) j ∙ rw s refl in
+      (λ k. rw k at e, λ k. rw k at e, λ k. rw k at e, λ k. rw k at e)
 
 -- ---- demand 3
 
