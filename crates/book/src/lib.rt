@@ -2,7 +2,7 @@
 // Words: kind, count n, n pairs of a body's first word and its length, then the bodies without gaps.
 use entry::word;
 ghost use mathlib.Core.Path.{_≡_};
-ghost use Prim.Native.Nat.{_^_, _≤_, _<_};
+ghost use Prim.Native.Nat.{_≤_};
 ghost use lib.ListN.{length};
 ghost use Rattle.book.specs.Book.{kind, count, startOf, sizeOf, firstBody, headerOk, bodiesOk, contentsOk};
 
@@ -25,19 +25,23 @@ pub fn count_of(book: &[u32]) -> usize
     word(book, 1) as usize
 }
 
-// Where body i starts.
+// Where body i starts; 0 past the book.
 pub fn start_of(book: &[u32], i: usize) -> usize
-    requires { ⌜ i < 2 ^ 32 ⌝ }
     ensures { λ r. ⌜ r ≡ startOf (now (book .entry)) i ⌝ }
 {
+    if book.len() / 2 <= i {
+        return 0;
+    }
     word(book, 2 + 2 * i) as usize
 }
 
-// How many words body i has.
+// How many words body i has; 0 past the book.
 pub fn size_of(book: &[u32], i: usize) -> usize
-    requires { ⌜ i < 2 ^ 32 ⌝ }
     ensures { λ r. ⌜ r ≡ sizeOf (now (book .entry)) i ⌝ }
 {
+    if book.len() / 2 <= i {
+        return 0;
+    }
     word(book, 3 + 2 * i) as usize
 }
 

@@ -10,7 +10,8 @@ use text::put_bytes;
 ghost use mathlib.Core.Path.{_≡_};
 ghost use mathlib.Core.Bool.{true};
 ghost use Prim.Native.Nat.{_≤_};
-ghost use lib.ListN.{length, replicate};
+ghost use lib.ListN.{length, take, replicate};
+ghost use Rattle.text.specs.Text.{Put};
 ghost use Rattle.entry.specs.Entry.{Processed};
 ghost use Rattle.book.specs.Book.{contentsOk};
 ghost use Rattle.translate.specs.Outcome.{AREA, entryOf, walkOf, outcome, Called, Exported};
@@ -48,6 +49,15 @@ fn process(kind: u32, limit: u32, last: Last, body: &[u32], out: &mut [u8], at: 
         4 => pdb::process_pdb(out, at, body, last),
         _ => x64::process_pe(out, at, body, limit, last),
     }
+}
+
+// The first `size` bytes of the work area, put into the text at `used`.
+fn copy(work: &[u8], size: usize, text: &mut [u8], used: usize) -> usize
+    requires { ⌜ size ≤ length (now work) ⌝ }
+    ensures { λ r. ⌜ Put (now (text .entry)) used (take size (now (work .entry))) (now (text .exit)) r ⌝ }
+{
+    let p = put_bytes(text, used, &work[..size]);
+    p
 }
 
 // One entry through the work area into the text, behind the first `used` bytes of it.
@@ -88,7 +98,7 @@ fn step(
             last: next,
         };
     }
-    let p = put_bytes(text, used, &work[..size]);
+    let p = copy(work, size, text, used);
     Next {
         number: 0,
         used: p,

@@ -349,7 +349,8 @@ fn scan_ops(body: &[u32], frame: u32, offset: u32, a: usize, n: usize, from: Sca
     let mut k = n;
     while 0 < k {
         k -= 1;
-        let op = op_at(body, frame, offset, a + 3 * k);
+        let i = a + 3 * k;
+        let op = op_at(body, frame, offset, i);
         s = s.step(op);
     }
     s

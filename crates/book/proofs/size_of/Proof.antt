@@ -1,8 +1,15 @@
--- `size_of`: the second word of pair i.
+-- `size_of`: the second word of pair i, and 0 where the book has no such word.
+use mathlib.Core.Path.{sym}
+use lib.ListN.{List·getD-eq-default}
 use Rattle.book.specs.Book.{sizeOf}
+use native.Mathlib.Omega.{arith}
 use borrow.Author.Needs.{needs}
 use Rattle.book.proofs.size_of.Statement.{statement}
 use Rattle.book.proofs.size_of.Tie as tie
+
+returns : tie.Need-returns
+unfolding sizeOf
+returns c = sym (List·getD-eq-default (c .before .before .args .book .now) 0 (omega (arith, c .if1 .taken)))
 
 mul-word : tie.Need-mul-word
 mul-word c = search needs
@@ -16,9 +23,9 @@ word-requires c κs = search needs
 cast-result : tie.Need-cast-result
 cast-result c = search needs
 
-returns : tie.Need-returns
+returns-2 : tie.Need-returns-2
 unfolding sizeOf
-returns c = c .word .ensures
+returns-2 c = c .word .ensures
 
 pub size-of-spec : {M : Type 1} → statement M
-size-of-spec = tie.close (tie.spec mul-word add-word word-requires cast-result returns)
+size-of-spec = tie.close (tie.spec returns mul-word add-word word-requires cast-result returns-2)

@@ -2,8 +2,11 @@
 use mathlib.Core.Path.{_≡_, ap, _∙_}
 use mathlib.Core.Bool.{Bool, not, cond, _&&_, _||_}
 use mathlib.Core.List.{[]}
-use lib.ListN.{length, length-set}
+use Prim.Native.Nat.{_+_, _-_}
+use lib.ListN.{length, set, length-set}
 use lib.Dec.{eqb}
+use mir.Syntax.{w64}
+use mir.Val.{Fits}
 use Rattle.dwarf.specs.Dwarf.{any, ruleBytes}
 use Rattle.dwarf.proofs.Store.{stored-counts, stored-sees, change-is}
 use Rattle.dwarf.proofs.Loops.{ScanLeft, scan-all, scan-turn, scan-done, rules-room, rules-place}
@@ -79,8 +82,12 @@ both-requires-3 c κs = search needs
 either-requires-2 : tie.Need-either-requires-2 Inv-loop μ-loop
 either-requires-2 c κs = search needs
 
+-- the next place is a number of the code
+add-fits : (c : tie.After-either2 Inv-loop μ-loop) → Fits w64 (c .before .before .before .before .before .before .before .before .before .before .before .before .before .before .before .before .before .before .loop .a + 4)
+add-fits c = record { fits = omega (arith, c .before .before .before .before .before .before .before .before .before .before .before .before .before .before .before .before .before .before .loop .inv .0 .rules .at) }
+
 add-a : tie.Need-add-a Inv-loop μ-loop
-add-a c = record { fits = omega (arith, c .before .before .before .before .before .before .before .before .before .before .before .before .before .before .before .before .before .before .loop .inv .0 .rules .at) }
+add-a c = search (needs, add-fits)
 
 sub-k : tie.Need-sub-k Inv-loop μ-loop
 sub-k c = search needs
@@ -88,8 +95,14 @@ sub-k c = search needs
 loop-less : tie.Need-loop-less Inv-loop μ-loop
 loop-less c = search needs
 
-loop-again : tie.Need-loop-again Inv-loop μ-loop
-loop-again c =
+-- a turn: the rule just read is the one last seen
+turn : (c : tie.After-either2 Inv-loop μ-loop)
+    → ScanLeft (c .before .before .before .before .before .before .before .before .before .before .before .before .before .before .before .before .before .before .before .before .args .body .now) (c .before .before .before .before .before .before .before .before .before .before .before .before .before .before .before .before .before .before .before .before .args .family) (c .before .before .before .before .before .before .before .before .before .before .before .before .before .before .before .before .before .before .before .before .args .ra) (c .before .before .before .before .before .before .before .before .before .before .before .before .before .before .before .before .before .before .before .before .args .already) (c .before .before .before .before .before .before .before .before .before .before .before .before .before .before .before .before .before .before .before .before .args .rules) (c .before .before .before .before .before .before .before .before .before .before .before .before .before .before .before .before .before .before .before .before .args .from) (c .before .before .before .before .before .before .before .before .before .before .before .before .before .before .before .before .before .before .before .before .args .n)
+    (record { register = set (c .before .before .before .before .before .before .before .before .before .before .before .before .before .before .before .before .before .before .loop .seen .register) (c .before .before .before .before .before .before .before .before .before .before .before .before .place .result) (c .before .before .before .before .before .before .before .before .before .before .before .before .before .before .before .before .rule-at .result .register); kind = set (c .before .before .before .before .before .before .before .before .before .before .before .before .before .before .before .before .before .before .loop .seen .kind) (c .before .before .before .before .before .before .before .before .before .before .before .before .place .result) (c .before .before .before .before .before .before .before .before .before .before .before .before .before .before .before .before .rule-at .result .kind); value = set (c .before .before .before .before .before .before .before .before .before .before .before .before .before .before .before .before .before .before .loop .seen .value) (c .before .before .before .before .before .before .before .before .before .before .before .before .place .result) (c .before .before .before .before .before .before .before .before .before .before .before .before .before .before .before .before .rule-at .result .value); count = c .before .before .before .before .before .count-behind .result })
+    (c .before .before .before .either .result) (c .either2 .result) (c .before .before .before .before .before .before .before .before .before .before .before .before .before .before .before .before .before .before .loop .a + 4) (c .before .before .before .before .before .before .before .before .before .before .before .before .before .before .before .before .before .before .loop .k - 1)
+    × (length (set (c .before .before .before .before .before .before .before .before .before .before .before .before .before .before .before .before .before .before .loop .seen .kind) (c .before .before .before .before .before .before .before .before .before .before .before .before .place .result) (c .before .before .before .before .before .before .before .before .before .before .before .before .before .before .before .before .rule-at .result .kind)) ≡ 64)
+    × (length (set (c .before .before .before .before .before .before .before .before .before .before .before .before .before .before .before .before .before .before .loop .seen .value) (c .before .before .before .before .before .before .before .before .before .before .before .before .place .result) (c .before .before .before .before .before .before .before .before .before .before .before .before .before .before .before .before .rule-at .result .value)) ≡ 64)
+turn c =
     let s = c .before .before .before .before .before .before .before .before .before .before .before .before .before .before .before .before .before .before .loop .seen in
     let x = c .before .before .before .before .before .before .before .before .before .before .before .before .before .before .before .before .rule-at .result in
     let lr : length (s .register) ≡ 64 = search needs in
@@ -104,6 +117,9 @@ loop-again c =
     (c .before .before .before .either .ensures ∙ ap (λ (t : Bool). c .before .before .before .before .before .before .before .before .before .before .before .before .before .before .before .before .before .before .loop .written || t) (_∙_ {b = any (cond (not (c .before .before .before .before .before .before .both2 .result)) (ruleBytes (a .family) (a .ra) x) [])} (c .before .before .before .before .rule-written .ensures) (ap (λ (t : Bool). any (cond t (ruleBytes (a .family) (a .ra) x) [])) changed)))
     (c .either2 .ensures ∙ ap (λ (t : Bool). c .before .before .before .before .before .before .before .before .before .before .before .before .before .before .before .before .before .before .loop .moved || t) (c .before .both3 .ensures ∙ ap (λ (t : Bool). eqb (x .register) (a .ra) && t) changed)) in
     (next, length-set (s .kind) _ _ ∙ lk, length-set (s .value) _ _ ∙ lv)
+
+loop-again : tie.Need-loop-again Inv-loop μ-loop
+loop-again c = search (needs, turn)
 
 returns : tie.Need-returns Inv-loop μ-loop
 returns c = scan-done (c .before .loop .inv .0) (search needs)

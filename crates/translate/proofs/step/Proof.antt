@@ -1,6 +1,4 @@
 -- `step`: the entry's number, 8, 9, or the copy, each by its law.
-use mathlib.Core.Path.{sym}
-use lib.Seq.{length-take-le}
 use Rattle.translate.specs.Outcome.{entryOf}
 use Rattle.translate.specs.Outcome.Laws.{refuses, too-long, no-room, copied}
 use native.Mathlib.Omega.{arith}
@@ -43,16 +41,8 @@ returns-3 c =
     (omega arith) (args .text .now) (args .used) (omega arith) (omega arith)
     (c .before .before .if1 .left) (c .before .if2 .left) (c .if3 .taken)
 
-slice-reshare-prefix-put-bytes : tie.Need-slice-reshare-prefix-put-bytes
-slice-reshare-prefix-put-bytes c = search needs
-
-slice-aggregate-put-bytes : tie.Need-slice-aggregate-put-bytes
-slice-aggregate-put-bytes c =
-    let p = c .before .before .before .before .before .before .before .before .process in
-    sym (length-take-le (p .result .at) (p .last .1 .1 .1 .1 .0) (omega (arith, p .kept .1 .1 .1 .1 .0)))
-
-put-bytes-requires : tie.Need-put-bytes-requires
-put-bytes-requires c κs = search needs
+copy-requires : tie.Need-copy-requires
+copy-requires c κs = search needs
 
 same-length-4 : tie.Need-same-length-4
 same-length-4 c = search needs
@@ -68,7 +58,7 @@ returns-4 c =
     let args = c .before .before .before .before .before .before .before .before .before .before .before .before .before .before .before .before .args in
     copied {e = entryOf (args .kind) (args .limit) (args .last) (args .body .now)} (c .before .before .before .before .before .before .before .before .before .before .before .process .ensures)
     (omega arith) (args .text .now) (args .used) (omega arith) (omega arith) (if1 .left) (if2 .left)
-    (if3 .left) _ _ (c .before .before .put-bytes .ensures)
+    (if3 .left) _ _ (c .before .before .copy .ensures)
 
 pub step-spec : {M : Type 1} → statement M
 step-spec =
@@ -82,9 +72,7 @@ step-spec =
     sub-if3
     same-length-3
     returns-3
-    slice-reshare-prefix-put-bytes
-    slice-aggregate-put-bytes
-    put-bytes-requires
+    copy-requires
     same-length-4
     same-length-5
     returns-4)

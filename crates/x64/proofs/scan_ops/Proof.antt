@@ -19,11 +19,11 @@ loop-holds c = record { small = search needs; few = search needs; rest = refl }
 sub-k : tie.Need-sub-k Inv-loop μ-loop
 sub-k c = search needs
 
-mul-op-at : tie.Need-mul-op-at Inv-loop μ-loop
-mul-op-at c = search needs
+mul-i : tie.Need-mul-i Inv-loop μ-loop
+mul-i c = search needs
 
-add-op-at : tie.Need-add-op-at Inv-loop μ-loop
-add-op-at c = search needs
+add-i : tie.Need-add-i Inv-loop μ-loop
+add-i c = search needs
 
 op-at-requires : tie.Need-op-at-requires Inv-loop μ-loop
 op-at-requires c κs = search needs
@@ -51,8 +51,8 @@ scan-ops-spec =
     μ-loop
     loop-holds
     sub-k
-    mul-op-at
-    add-op-at
+    mul-i
+    add-i
     op-at-requires
     step-requires
     loop-less
