@@ -2,8 +2,8 @@
 // Words: kind, count n, n pairs of a body's first word and its length, then the bodies without gaps.
 use entry::word;
 ghost use mathlib.Core.Path.{_≡_};
-ghost use Prim.Native.Nat.{_≤_};
-ghost use lib.ListN.{length};
+ghost use Prim.Native.Nat.{_+_, _*_, _≤_};
+ghost use lib.ListN.{length, getD};
 ghost use Rattle.book.specs.Book.{kind, count, startOf, sizeOf, firstBody, headerOk, bodiesOk, contentsOk};
 
 // The kinds: 1 to this one.
@@ -25,24 +25,29 @@ pub fn count_of(book: &[u32]) -> usize
     word(book, 1) as usize
 }
 
-// Where body i starts; 0 past the book.
+// A word of contents pair i, 0 its first and 1 its second; 0 past the book.
+fn pair_word(book: &[u32], i: usize, k: usize) -> usize
+    requires { ⌜ k ≤ 1 ⌝ }
+    ensures { λ r. ⌜ r ≡ getD (now (book .entry)) (2 + 2 * i + k) 0 ⌝ }
+{
+    if book.len() / 2 <= i {
+        return 0;
+    }
+    word(book, 2 + 2 * i + k) as usize
+}
+
+// Where body i starts.
 pub fn start_of(book: &[u32], i: usize) -> usize
     ensures { λ r. ⌜ r ≡ startOf (now (book .entry)) i ⌝ }
 {
-    if book.len() / 2 <= i {
-        return 0;
-    }
-    word(book, 2 + 2 * i) as usize
+    pair_word(book, i, 0)
 }
 
-// How many words body i has; 0 past the book.
+// How many words body i has.
 pub fn size_of(book: &[u32], i: usize) -> usize
     ensures { λ r. ⌜ r ≡ sizeOf (now (book .entry)) i ⌝ }
 {
-    if book.len() / 2 <= i {
-        return 0;
-    }
-    word(book, 3 + 2 * i) as usize
+    pair_word(book, i, 1)
 }
 
 // The kind, the count and the room for the contents pairs.

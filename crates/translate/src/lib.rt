@@ -56,8 +56,7 @@ fn copy(work: &[u8], size: usize, text: &mut [u8], used: usize) -> usize
     requires { ⌜ size ≤ length (now work) ⌝ }
     ensures { λ r. ⌜ Put (now (text .entry)) used (take size (now (work .entry))) (now (text .exit)) r ⌝ }
 {
-    let p = put_bytes(text, used, &work[..size]);
-    p
+    put_bytes(text, used, &work[..size])
 }
 
 // One entry through the work area into the text, behind the first `used` bytes of it.

@@ -32,8 +32,7 @@ returns : tie.Need-returns Inv-loop μ-loop
 returns c =
     let l = c .before .before .before .loop in
     let a = c .before .before .before .before .before .args in
-    (apart (a .book .now) (a .n) (l .i) (l .at) (omega arith) (λ e. c .if1 .taken (c .before .start-of .ensures ∙ e))) ∙ sym
-    (l .inv .1 .1)
+    (apart (a .book .now) (a .n) (l .i) (l .at) (omega arith) (λ e. omega (arith, c .if1 .taken, c .before .start-of .ensures))) ∙ sym (l .inv .1 .1)
 
 size-of-requires : tie.Need-size-of-requires Inv-loop μ-loop
 size-of-requires c κs = search needs
@@ -46,7 +45,7 @@ returns-2 c =
     let l = c .before .before .before .before .before .loop in
     let a = c .before .before .before .before .before .before .before .args in
     past (a .book .now) (a .n) (l .i) (l .at) (omega arith)
-    (sym (c .before .before .before .start-of .ensures) ∙ c .before .before .if1 .left)
+    (omega (arith, c .before .before .before .start-of .ensures, c .before .before .if1 .left))
     (rw (← c .before .size-of .ensures) (c .if2 .taken)) ∙ sym (l .inv .1 .1)
 
 add-at-2 : tie.Need-add-at-2 Inv-loop μ-loop
@@ -67,7 +66,7 @@ loop-again c =
         search needs,
         l .inv .1 .1 ∙ rw (c .before .size-of .ensures)
             (onward (a .book .now) (a .n) (l .i) (l .at) (omega arith)
-            (sym (c .before .before .before .start-of .ensures) ∙ c .before .before .if1 .left)
+            (omega (arith, c .before .before .before .start-of .ensures, c .before .before .if1 .left))
             (rw (← c .before .size-of .ensures) (c .if2 .left))),
       ),
     )

@@ -1,31 +1,21 @@
--- `size_of`: the second word of pair i, and 0 where the book has no such word.
-use mathlib.Core.Path.{sym}
-use lib.ListN.{List·getD-eq-default}
+-- `size_of`: the second word of pair i.
+use mathlib.Core.Path.{_≡_}
+use Prim.Native.Nat.{_+_, _*_}
 use Rattle.book.specs.Book.{sizeOf}
 use native.Mathlib.Omega.{arith}
 use borrow.Author.Needs.{needs}
 use Rattle.book.proofs.size_of.Statement.{statement}
 use Rattle.book.proofs.size_of.Tie as tie
 
+pair-word-requires : tie.Need-pair-word-requires
+pair-word-requires c κs = search needs
+
 returns : tie.Need-returns
 unfolding sizeOf
-returns c = sym (List·getD-eq-default (c .before .before .args .book .now) 0 (omega (arith, c .if1 .taken)))
-
-mul-word : tie.Need-mul-word
-mul-word c = search needs
-
-add-word : tie.Need-add-word
-add-word c = search needs
-
-word-requires : tie.Need-word-requires
-word-requires c κs = search needs
-
-cast-result : tie.Need-cast-result
-cast-result c = search needs
-
-returns-2 : tie.Need-returns-2
-unfolding sizeOf
-returns-2 c = c .word .ensures
+returns c =
+    let i = c .before .before .args .i in
+    let e : 2 + 2 * i + 1 ≡ 3 + 2 * i = omega arith in
+    rw (← e) (c .pair-word .ensures)
 
 pub size-of-spec : {M : Type 1} → statement M
-size-of-spec = tie.close (tie.spec returns mul-word add-word word-requires cast-result returns-2)
+size-of-spec = tie.close (tie.spec pair-word-requires returns)
