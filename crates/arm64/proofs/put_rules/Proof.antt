@@ -1,5 +1,10 @@
 -- `put_rules`: four parts, joined.
+use mathlib.Core.List.{List}
+use Prim.Native.Nat.{ℕ}
+use Rattle.text.specs.Text.{Put}
 use Rattle.text.specs.Text.Laws.{_⨾_}
+use Rattle.arm64.specs.declared.BreakpadEncoder.{BreakpadEncoder}
+use Rattle.arm64.specs.Arm64.{savedText, cfaText, raText, given}
 use Rattle.arm64.specs.Encoder.{stepText}
 use borrow.Author.Needs.{needs}
 use Rattle.arm64.proofs.put_rules.Statement.{statement}
@@ -20,14 +25,15 @@ put-ra-requires c κs = search needs
 same-length : tie.Need-same-length
 same-length c = search needs
 
-returns : tie.Need-returns
+-- the CFA, the registers and .ra, one after the other
+parts : (e : BreakpadEncoder) {d d₁ d₂ d₃ d₄ : List ℕ} {at p₁ p₂ p₃ r : ℕ} → Put d at (given (e .«cfa_touched») (cfaText (e .«stack_size»))) d₁ p₁
+    → Put d₁ p₁ (given (e .one) (savedText (e .first))) d₂ p₂ → Put d₂ p₂ (given (e .two) (savedText (e .second))) d₃ p₃
+    → Put d₃ p₃ (given (e .«ra_written») (raText (e .second))) d₄ r → Put d at (stepText e) d₄ r
 unfolding stepText
-returns c =
-    let c2 = c .before .before in
-    let c6 = c2 .before .before .before .before in
-    let c10 = c6 .before .before .before .before in
-    let c14 = c10 .before .before .before .before in
-    c14 .put-cfa .ensures ⨾ c10 .put-register .ensures ⨾ c6 .put-register2 .ensures ⨾ c2 .put-ra .ensures
+parts e a b c d = a ⨾ b ⨾ c ⨾ d
+
+returns : tie.Need-returns
+returns c = search (needs, parts)
 
 pub put-rules-spec : {M : Type 1} → statement M
 put-rules-spec =
