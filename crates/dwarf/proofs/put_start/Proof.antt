@@ -1,4 +1,6 @@
 -- `put_start`: one return for each beginning.
+use mathlib.Core.Path.{_≡_}
+use Prim.Native.Nat.{_-_}
 use borrow.Author.Tests.{eq-eqb, ne-eqb}
 use Rattle.lines.specs.Lines.{initText, laterText}
 use Rattle.dwarf.specs.Dwarf.{startBytes}
@@ -17,7 +19,12 @@ same-length c = search needs
 
 returns : tie.Need-returns
 unfolding startBytes initText
-returns c = rw (eq-eqb (c .before .before .before .before .before .before .before .before .args .start) (c .before .before .before .before .before .before .before .before .args .fde .start) (c .before .before .before .before .if1 .taken), ← c .before .before .before .before .before .before .less .ensures) (c .before .before .put-init .ensures)
+returns c =
+    let c4 = c .before .before .before .before in
+    let c6 = c4 .before .before in
+    let a = c6 .before .before .args in
+    let address : c6 .less .result ≡ a .start - a .fde .load = c6 .less .ensures in
+    rw (eq-eqb (a .start) (a .fde .start) (c4 .if1 .taken), ← address) (c .before .before .put-init .ensures)
 
 put-later-requires : tie.Need-put-later-requires
 put-later-requires c κs = search needs
@@ -27,7 +34,12 @@ same-length-2 c = search needs
 
 returns-2 : tie.Need-returns-2
 unfolding startBytes laterText
-returns-2 c = rw (ne-eqb (c .before .before .before .before .before .before .before .before .args .start) (c .before .before .before .before .before .before .before .before .args .fde .start) (c .before .before .before .before .if1 .left), ← c .before .before .before .before .before .before .less .ensures) (c .before .before .put-later .ensures)
+returns-2 c =
+    let c4 = c .before .before .before .before in
+    let c6 = c4 .before .before in
+    let a = c6 .before .before .args in
+    let address : c6 .less .result ≡ a .start - a .fde .load = c6 .less .ensures in
+    rw (ne-eqb (a .start) (a .fde .start) (c4 .if1 .left), ← address) (c .before .before .put-later .ensures)
 
 pub put-start-spec : {M : Type 1} → statement M
 put-start-spec =

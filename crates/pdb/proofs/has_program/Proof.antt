@@ -1,6 +1,9 @@
 -- `has_program`: test by test.
-use mathlib.Core.Path.{sym, _∙_}
+use mathlib.Core.Path.{sym, ap, _∙_}
+use Prim.Native.Nat.{ℕ}
+use lib.Dec.{eqb}
 use borrow.Author.Tests.{eq-eqb, ne-eqb}
+use Rattle.text.specs.Tests.{and-yes}
 use Rattle.entry.specs.Entry.{word}
 use Rattle.pdb.specs.Pdb.{hasProgram}
 use borrow.Author.Needs.{needs}
@@ -18,7 +21,8 @@ unfolding hasProgram
 returns c =
     let c2 = c .before .before in
     let c4 = c2 .before .before in
-    rw (c .before .word2 .ensures, eq-eqb (word (c4 .args .body .now) 10) 1 (sym (c2 .word .ensures) ∙ c .if1 .taken))
+    let ws = c4 .args .body .now in
+    ap (λ (x : ℕ). eqb x 1) (c .before .word2 .ensures) ∙ and-yes (eqb (word ws 10) 1) (eqb (word ws 11) 1) (eq-eqb (word ws 10) 1 (sym (c2 .word .ensures) ∙ c .if1 .taken))
 
 returns-2 : tie.Need-returns-2
 unfolding hasProgram

@@ -26,7 +26,7 @@ returns-2 c =
     let args = c .before .before .before .before .before .before .before .before .before .before .args in
     too-long {e = entryOf (args .kind) (args .limit) (args .last) (args .body .now)} (c .before .before .before .before .before .process .ensures)
     (omega arith) (args .text .now) (args .used) (omega arith) (omega arith) (c .before .if1 .left)
-    (c .if2 .taken)
+    (omega (arith, c .if2 .taken))
 
 sub-if3 : tie.Need-sub-if3
 sub-if3 c = search needs
@@ -39,7 +39,7 @@ returns-3 c =
     let args = c .before .before .before .before .before .before .before .before .before .before .before .args in
     no-room {e = entryOf (args .kind) (args .limit) (args .last) (args .body .now)} (c .before .before .before .before .before .before .process .ensures)
     (omega arith) (args .text .now) (args .used) (omega arith) (omega arith)
-    (c .before .before .if1 .left) (c .before .if2 .left) (c .if3 .taken)
+    (c .before .before .if1 .left) (omega (arith, c .before .if2 .left)) (omega (arith, c .if3 .taken))
 
 copy-requires : tie.Need-copy-requires
 copy-requires c κs = search needs

@@ -1,6 +1,6 @@
 -- Demand 3: two translated books of one kind have equal texts exactly when their senses are equal. What is left out of the sense of a translated book
 -- is what is skipped, and nothing else. The law of the CFA, of the lines of a book's sense.
--- A kind adds one case to `entry-text`, `entry-next`, `entry-ok` and `entry-judged`.
+-- A kind adds one case to `text-by`, `next-by`, `ok-by` and `judged-by`.
 use mathlib.Core.Logic.{_↔_}
 use mathlib.Core.Path.{_≡_, refl, sym, ap, _∙_}
 use mathlib.Core.List.{List, [], _∷_, _++_, append-nil, append-assoc, reverse, reverseAux}
@@ -50,7 +50,7 @@ handed t u v ds = cond t noLast (cond u noLast (cond v (lastUnskipped ds) noLast
 abbrev left : ℕ → List (List ℕ) → Last
 left k ds = handed (eqb k 2) (eqb k 3) (eqb k 4) ds
 
--- an entry by its kind
+-- one of four, by kind
 abbrev chosen : {A : Type 0} → Bool → Bool → Bool → A → A → A → A → A
 chosen t u v arm dwarf pdb x64 = cond t arm (cond u dwarf (cond v pdb x64))
 
@@ -63,13 +63,15 @@ judgedOf : ℕ → ℕ → List (List ℕ) → List ℕ → Judged
 judgedOf k l ds b = chosen (eqb k 2) (eqb k 3) (eqb k 4) (armJudged b) (dwarfJudged b) (pdbJudged (lastUnskipped ds) b) (x64Judged l b)
 
 module _ (l : ℕ) (ds : List (List ℕ)) (b : List ℕ) where
-  -- the entry, its skipping and its lines, by kind
+  -- the entry, by kind
   abbrev anEntry : Bool → Bool → Bool → Entry
   anEntry t u v = chosen t u v (armEntry (handed t u v ds) b) (dwarfEntry (handed t u v ds) b) (pdbEntry (handed t u v ds) b) (x64Entry l (handed t u v ds) b)
 
+  -- whether it is skipped
   abbrev isSkipped : Bool → Bool → Bool → Bool
   isSkipped t u v = chosen t u v (armSkipped b) (dwarfSkipped b) (pdbSkipped (lastUnskipped ds) b) (x64Skipped l b)
 
+  -- its lines
   abbrev someLines : Bool → Bool → Bool → List Line
   someLines t u v = chosen t u v (armLines b) (dwarfLines b) (pdbLines b) (x64Lines b)
 
