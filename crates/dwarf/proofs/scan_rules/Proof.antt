@@ -2,7 +2,7 @@
 use mathlib.Core.Path.{_≡_, ap, _∙_}
 use mathlib.Core.Bool.{Bool, not, cond, _&&_, _||_}
 use mathlib.Core.List.{[]}
-use Prim.Native.Nat.{_+_, _-_}
+use Prim.Native.Nat.{_+_, _-_, _<_}
 use lib.ListN.{length, set, length-set}
 use lib.Dec.{eqb}
 use mir.Syntax.{w64}
@@ -96,26 +96,36 @@ loop-less : tie.Need-loop-less Inv-loop μ-loop
 loop-less c = search needs
 
 -- a turn: the rule just read is the one last seen
-turn : (c : tie.After-either2 Inv-loop μ-loop)
-    → ScanLeft (c .before .before .before .before .before .before .before .before .before .before .before .before .before .before .before .before .before .before .before .before .args .body .now) (c .before .before .before .before .before .before .before .before .before .before .before .before .before .before .before .before .before .before .before .before .args .family) (c .before .before .before .before .before .before .before .before .before .before .before .before .before .before .before .before .before .before .before .before .args .ra) (c .before .before .before .before .before .before .before .before .before .before .before .before .before .before .before .before .before .before .before .before .args .already) (c .before .before .before .before .before .before .before .before .before .before .before .before .before .before .before .before .before .before .before .before .args .rules) (c .before .before .before .before .before .before .before .before .before .before .before .before .before .before .before .before .before .before .before .before .args .from) (c .before .before .before .before .before .before .before .before .before .before .before .before .before .before .before .before .before .before .before .before .args .n)
-    (record { register = set (c .before .before .before .before .before .before .before .before .before .before .before .before .before .before .before .before .before .before .loop .seen .register) (c .before .before .before .before .before .before .before .before .before .before .before .before .place .result) (c .before .before .before .before .before .before .before .before .before .before .before .before .before .before .before .before .rule-at .result .register); kind = set (c .before .before .before .before .before .before .before .before .before .before .before .before .before .before .before .before .before .before .loop .seen .kind) (c .before .before .before .before .before .before .before .before .before .before .before .before .place .result) (c .before .before .before .before .before .before .before .before .before .before .before .before .before .before .before .before .rule-at .result .kind); value = set (c .before .before .before .before .before .before .before .before .before .before .before .before .before .before .before .before .before .before .loop .seen .value) (c .before .before .before .before .before .before .before .before .before .before .before .before .place .result) (c .before .before .before .before .before .before .before .before .before .before .before .before .before .before .before .before .rule-at .result .value); count = c .before .before .before .before .before .count-behind .result })
-    (c .before .before .before .either .result) (c .either2 .result) (c .before .before .before .before .before .before .before .before .before .before .before .before .before .before .before .before .before .before .loop .a + 4) (c .before .before .before .before .before .before .before .before .before .before .before .before .before .before .before .before .before .before .loop .k - 1)
-    × (length (set (c .before .before .before .before .before .before .before .before .before .before .before .before .before .before .before .before .before .before .loop .seen .kind) (c .before .before .before .before .before .before .before .before .before .before .before .before .place .result) (c .before .before .before .before .before .before .before .before .before .before .before .before .before .before .before .before .rule-at .result .kind)) ≡ 64)
-    × (length (set (c .before .before .before .before .before .before .before .before .before .before .before .before .before .before .before .before .before .before .loop .seen .value) (c .before .before .before .before .before .before .before .before .before .before .before .before .place .result) (c .before .before .before .before .before .before .before .before .before .before .before .before .before .before .before .before .rule-at .result .value)) ≡ 64)
+turn : (c : tie.After-either2 Inv-loop μ-loop) →
+    let l = c .before .before .before .before .before .before .before .before .before .before .before .before .before .before .before .before .before .before in
+    let a = l .before .before .args in
+    let s = l .loop .seen in
+    let x = c .before .before .before .before .before .before .before .before .before .before .before .before .before .before .before .before .rule-at .result in
+    let q = c .before .before .before .before .before .before .before .before .before .before .before .before .place .result in
+    ScanLeft (a .body .now) (a .family) (a .ra) (a .already) (a .rules) (a .from) (a .n)
+    (record { register = set (s .register) q (x .register); kind = set (s .kind) q (x .kind); value = set (s .value) q (x .value); count = c .before .before .before .before .before .count-behind .result })
+    (c .before .before .before .either .result) (c .either2 .result) (l .loop .a + 4) (l .loop .k - 1)
+    × (length (set (s .kind) q (x .kind)) ≡ 64) × (length (set (s .value) q (x .value)) ≡ 64)
 turn c =
     let s = c .before .before .before .before .before .before .before .before .before .before .before .before .before .before .before .before .before .before .loop .seen in
-    let x = c .before .before .before .before .before .before .before .before .before .before .before .before .before .before .before .before .rule-at .result in
     let lr : length (s .register) ≡ 64 = search needs in
-    let lk : length (s .kind) ≡ 64 = c .before .before .before .before .before .before .before .before .before .before .before .before .before .before .before .before .before .before .loop .inv .1 in
-    let lv : length (s .value) ≡ 64 = c .before .before .before .before .before .before .before .before .before .before .before .before .before .before .before .before .before .before .loop .inv .2 in
-    let room = rules-room (c .before .before .before .before .before .before .before .before .before .before .before .before .before .before .before .before .before .before .loop .inv .0 .rules) (search needs) (c .before .before .before .before .before .before .before .before .before .before .before .before .before .before .before .before .rule-at .ensures) (c .before .before .before .before .before .before .before .before .before .before .before .before .before .before .before .before .before .before .before .before .pre .2) in
-    let counts = stored-counts s (x .register) (x .kind) (x .value) lr lk lv room (c .before .before .before .before .before .before .before .before .before .before .before .before .place .ensures) (c .before .before .before .before .before .count-behind .ensures) in
-    let sees = stored-sees s (x .register) (x .kind) (x .value) lr lk lv room (c .before .before .before .before .before .before .before .before .before .before .before .before .place .ensures) (c .before .before .before .before .before .count-behind .ensures) in
-    let changed = change-is s (x .register) (x .kind) (x .value) lr lk lv room (c .before .before .before .before .before .before .before .before .before .before .before .before .place .ensures) (c .before .before .before .before .before .before .before .both .ensures) (c .before .before .before .before .before .before .both2 .ensures) in
-    let a = c .before .before .before .before .before .before .before .before .before .before .before .before .before .before .before .before .before .before .before .before .args in
-    let next = scan-turn (c .before .before .before .before .before .before .before .before .before .before .before .before .before .before .before .before .before .before .loop .inv .0) (search needs) (c .before .before .before .before .before .before .before .before .before .before .before .before .before .before .before .before .rule-at .ensures) (c .before .before .before .before .before .before .before .before .before .before .before .before .before .before .before .before .before .before .before .before .pre .2) counts sees
-    (c .before .before .before .either .ensures ∙ ap (λ (t : Bool). c .before .before .before .before .before .before .before .before .before .before .before .before .before .before .before .before .before .before .loop .written || t) (_∙_ {b = any (cond (not (c .before .before .before .before .before .before .both2 .result)) (ruleBytes (a .family) (a .ra) x) [])} (c .before .before .before .before .rule-written .ensures) (ap (λ (t : Bool). any (cond t (ruleBytes (a .family) (a .ra) x) [])) changed)))
-    (c .either2 .ensures ∙ ap (λ (t : Bool). c .before .before .before .before .before .before .before .before .before .before .before .before .before .before .before .before .before .before .loop .moved || t) (c .before .both3 .ensures ∙ ap (λ (t : Bool). eqb (x .register) (a .ra) && t) changed)) in
+    let some : 0 < c .before .before .before .before .before .before .before .before .before .before .before .before .before .before .before .before .before .before .loop .k = search needs in
+    let l = c .before .before .before .before .before .before .before .before .before .before .before .before .before .before .before .before .before .before in
+    let a = l .before .before .args in
+    let x = c .before .before .before .before .before .before .before .before .before .before .before .before .before .before .before .before .rule-at .result in
+    let c5 = c .before .before .before .before .before in
+    let both2 = c5 .before .both2 in
+    let place-is = c .before .before .before .before .before .before .before .before .before .before .before .before .place .ensures in
+    let rule-is = c .before .before .before .before .before .before .before .before .before .before .before .before .before .before .before .before .rule-at .ensures in
+    let lk : length (s .kind) ≡ 64 = l .loop .inv .1 in
+    let lv : length (s .value) ≡ 64 = l .loop .inv .2 in
+    let room = rules-room (l .loop .inv .0 .rules) some rule-is (l .before .before .pre .2) in
+    let counts = stored-counts s (x .register) (x .kind) (x .value) lr lk lv room place-is (c5 .count-behind .ensures) in
+    let sees = stored-sees s (x .register) (x .kind) (x .value) lr lk lv room place-is (c5 .count-behind .ensures) in
+    let changed = change-is s (x .register) (x .kind) (x .value) lr lk lv room place-is (c5 .before .before .both .ensures) (both2 .ensures) in
+    let next = scan-turn (l .loop .inv .0) some rule-is (l .before .before .pre .2) counts sees
+    (c .before .before .before .either .ensures ∙ ap (λ (t : Bool). l .loop .written || t) (_∙_ {b = any (cond (not (both2 .result)) (ruleBytes (a .family) (a .ra) x) [])} (c .before .before .before .before .rule-written .ensures) (ap (λ (t : Bool). any (cond t (ruleBytes (a .family) (a .ra) x) [])) changed)))
+    (c .either2 .ensures ∙ ap (λ (t : Bool). l .loop .moved || t) (c .before .both3 .ensures ∙ ap (λ (t : Bool). eqb (x .register) (a .ra) && t) changed)) in
     (next, length-set (s .kind) _ _ ∙ lk, length-set (s .value) _ _ ∙ lv)
 
 loop-again : tie.Need-loop-again Inv-loop μ-loop
