@@ -49,7 +49,7 @@ returns-3 c =
     rw (← c7 .judge .ensures, c5 .enum-told2 .given .1) (record {
       number-is = refl;
       next-is = refl;
-      put = put-as (c .before .before .put-lines .ensures) (ap (λ (os : List Op). run (word ws 0) (word ws 1) 0 0 noPair os) (ap (opsRun ws 3) (c .before .before .before .first-end .ensures) ∙ sym (ops-run ws)));
+      put = put-as {s = run (word ws 0) (word ws 1) 0 0 noPair (opsRun ws 3 (c .before .before .before .first-end .result))} (c .before .before .put-lines .ensures) (ap (λ (os : List Op). run (word ws 0) (word ws 1) 0 0 noPair os) (ap (opsRun ws 3) (c .before .before .before .first-end .ensures) ∙ sym (ops-run ws)));
     })
 
 pub process-pe-arm64-spec : {M : Type 1} → statement M
