@@ -40,12 +40,12 @@ lastCfaRule (w ∷ ws) = orElse (lastCfaRule ws) (w .cfa ∷ [])
 -- 01, Sense: a rule differs where the last earlier row naming its register has another, or none does
 unfoldable pub ruleDiffers : List RegisterRule → RegisterRule → Bool
 ruleDiffers [] x = true
-ruleDiffers (y ∷ ys) x = not (eqb (x .kind) (y .kind) && eqb (x .value) (y .value))
+ruleDiffers (y ∷ ys) x = not (eqb (y .kind) (x .kind) && eqb (y .value) (x .value))
 
 -- and so does a CFA
 unfoldable pub cfaChanges : List CfaRule → CfaRule → Bool
 cfaChanges [] x = true
-cfaChanges (y ∷ ys) x = not (eqb (x .kind) (y .kind) && (eqb (x .register) (y .register) && eqb (x .offset) (y .offset)))
+cfaChanges (y ∷ ys) x = not (eqb (y .kind) (x .kind) && (eqb (y .register) (x .register) && eqb (y .offset) (x .offset)))
 
 -- ---- rules: none where a name lacks. An empty name is none.
 

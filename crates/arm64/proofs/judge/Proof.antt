@@ -19,38 +19,55 @@ returns c = rw (sym (c .before .layout .ensures) ∙ not-true (c .before .layout
 
 is-undecodable-requires : tie.Need-is-undecodable-requires
 is-undecodable-requires c κs =
-    let l : armLayout (c .before .before .before .args .body .now) ≡ true = sym (c .before .layout .ensures) ∙ not-false (c .before .layout .result) (c .if1 .left) in
-    layout-few (c .before .before .before .args .body .now) (rw l tt)
+    let p = c .before .layout in
+    let ws = c .before .before .before .args .body .now in
+    let l : armLayout ws ≡ true = sym (p .ensures) ∙ not-false (p .result) (c .if1 .left) in
+    layout-few ws (rw l tt)
 
 returns-2 : tie.Need-returns-2
 unfolding armJudged armSkipped
 returns-2 c =
-    let l : armLayout (c .before .before .before .before .before .args .body .now) ≡ true = sym (c .before .before .before .layout .ensures) ∙ not-false (c .before .before .before .layout .result) (c .before .before .if1 .left) in
+    let c3 = c .before .before .before in
+    let ws = c3 .before .before .args .body .now in
+    let l : armLayout ws ≡ true = sym (c3 .layout .ensures) ∙ not-false (c3 .layout .result) (c .before .before .if1 .left) in
     rw (l, sym (c .before .is-undecodable .ensures) ∙ c .if2 .taken)
 
 first-end-requires : tie.Need-first-end-requires
 first-end-requires c κs =
-    let l : armLayout (c .before .before .before .before .before .args .body .now) ≡ true = sym (c .before .before .before .layout .ensures) ∙ not-false (c .before .before .before .layout .result) (c .before .before .if1 .left) in
-    layout-few (c .before .before .before .before .before .args .body .now) (rw l tt)
+    let c3 = c .before .before .before in
+    let ws = c3 .before .before .args .body .now in
+    let l : armLayout ws ≡ true = sym (c3 .layout .ensures) ∙ not-false (c3 .layout .result) (c .before .before .if1 .left) in
+    layout-few ws (rw l tt)
 
 reaches-requires : tie.Need-reaches-requires
 reaches-requires c κs =
-    let l : armLayout (c .before .before .before .before .before .before .args .body .now) ≡ true = sym (c .before .before .before .before .layout .ensures) ∙ not-false (c .before .before .before .before .layout .result) (c .before .before .before .if1 .left) in
-    omega (arith, c .first-end .ensures, first-end-few (c .before .before .before .before .before .before .args .body .now) 3 (opCount (c .before .before .before .before .before .before .args .body .now)), layout-few (c .before .before .before .before .before .before .args .body .now) (rw l tt))
+    let c3 = c .before .before .before in
+    let c4 = c3 .before in
+    let ws = c4 .before .before .args .body .now in
+    let l : armLayout ws ≡ true = sym (c4 .layout .ensures) ∙ not-false (c4 .layout .result) (c3 .if1 .left) in
+    omega (arith, c .first-end .ensures, first-end-few ws 3 (opCount ws), layout-few ws (rw l tt))
 
 returns-3 : tie.Need-returns-3
 unfolding armJudged armSkipped
 returns-3 c =
-    let l : armLayout (c .before .before .before .before .before .before .before .before .args .body .now) ≡ true = sym (c .before .before .before .before .before .before .layout .ensures) ∙ not-false (c .before .before .before .before .before .before .layout .result) (c .before .before .before .before .before .if1 .left) in
-    let r : inReach (word (c .before .before .before .before .before .before .before .before .args .body .now) 0) 0 0 noPair (ops (c .before .before .before .before .before .before .before .before .args .body .now)) ≡ true = rw (ops-run (c .before .before .before .before .before .before .before .before .args .body .now), ← c .before .before .first-end .ensures) (sym (c .before .reaches .ensures) ∙ c .if3 .taken) in
-    rw (l, sym (c .before .before .before .before .is-undecodable .ensures) ∙ c .before .before .before .if2 .left, r)
+    let c2 = c .before .before in
+    let c4 = c2 .before .before in
+    let c6 = c4 .before .before in
+    let ws = c6 .before .before .args .body .now in
+    let l : armLayout ws ≡ true = sym (c6 .layout .ensures) ∙ not-false (c6 .layout .result) (c4 .before .if1 .left) in
+    let r : inReach (word ws 0) 0 0 noPair (ops ws) ≡ true = rw (ops-run ws, ← c2 .first-end .ensures) (sym (c .before .reaches .ensures) ∙ c .if3 .taken) in
+    rw (l, sym (c4 .is-undecodable .ensures) ∙ c2 .before .if2 .left, r)
 
 returns-4 : tie.Need-returns-4
 unfolding armJudged armSkipped
 returns-4 c =
-    let l : armLayout (c .before .before .before .before .before .before .before .before .args .body .now) ≡ true = sym (c .before .before .before .before .before .before .layout .ensures) ∙ not-false (c .before .before .before .before .before .before .layout .result) (c .before .before .before .before .before .if1 .left) in
-    let r : inReach (word (c .before .before .before .before .before .before .before .before .args .body .now) 0) 0 0 noPair (ops (c .before .before .before .before .before .before .before .before .args .body .now)) ≡ false = rw (ops-run (c .before .before .before .before .before .before .before .before .args .body .now), ← c .before .before .first-end .ensures) (sym (c .before .reaches .ensures) ∙ c .if3 .left) in
-    rw (l, sym (c .before .before .before .before .is-undecodable .ensures) ∙ c .before .before .before .if2 .left, r)
+    let c2 = c .before .before in
+    let c4 = c2 .before .before in
+    let c6 = c4 .before .before in
+    let ws = c6 .before .before .args .body .now in
+    let l : armLayout ws ≡ true = sym (c6 .layout .ensures) ∙ not-false (c6 .layout .result) (c4 .before .if1 .left) in
+    let r : inReach (word ws 0) 0 0 noPair (ops ws) ≡ false = rw (ops-run ws, ← c2 .first-end .ensures) (sym (c .before .reaches .ensures) ∙ c .if3 .left) in
+    rw (l, sym (c4 .is-undecodable .ensures) ∙ c2 .before .if2 .left, r)
 
 pub judge-spec : {M : Type 1} → statement M
 judge-spec =

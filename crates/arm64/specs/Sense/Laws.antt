@@ -14,7 +14,7 @@ use Rattle.text.specs.Tests.{is-false, all, all-append, and-l, and-r, both, eqw
 use Rattle.text.specs.Digits.{decimal}
 use Rattle.names.specs.Names.{letterOf, arm64Name}
 use Rattle.lines.specs.Lines.{Bytes, Rule, rule, register, cfa, formText, ruleText, rulesText, initText, laterText, lineText, render, nameOk, ruleOk, lineOk}
-use Rattle.lines.specs.Lines.Laws.{rules-append, render-none}
+use Rattle.lines.specs.Lines.Laws.{rules-append, render-unless}
 use Rattle.lines.specs.Rules.Laws.{arm64-ok}
 use Rattle.entry.specs.declared.Last.{Last}
 use Rattle.entry.specs.Entry.{word}
@@ -222,11 +222,7 @@ arm-accepted last ws = accepted (armLayout ws) (armSkipped ws) (inReach (word ws
 
 pub arm-entry-text : (last : Last) (ws : List ℕ) → armEntry last ws .number ≡ 0 → armEntry last ws .text ≡ render true (cond (armSkipped ws) [] (armLines ws))
 unfolding armEntry
-arm-entry-text last ws e = arm-accepted last ws e .text-is ∙ go (armSkipped ws)
-  where
-    go : (t : Bool) → cond t [] (armText ws) ≡ render true (cond t [] (armLines ws))
-    go true = render-none true
-    go false = arm-text ws
+arm-entry-text last ws e = arm-accepted last ws e .text-is ∙ render-unless true (armSkipped ws) (armText ws) (armLines ws) (arm-text ws)
 
 -- ---- every line is well formed
 

@@ -1,7 +1,7 @@
 -- `rows_fit`: the rows left fit where all do.
 use mathlib.Core.Path.{_≡_, refl, sym, _∙_}
 use mathlib.Core.Bool.{true}
-use Prim.Native.Nat.{_+_, _*_, _≤_}
+use Prim.Native.Nat.{_+_, _*_, _≤_, _<_}
 use borrow.Author.Tests.{not-true, not-false}
 use Rattle.dwarf.specs.Dwarf.{rowCount, rowFits, rowsFit}
 use Rattle.text.specs.Tests.{and-no, and-yes}
@@ -30,7 +30,12 @@ row-fits-requires : tie.Need-row-fits-requires Inv-loop μ-loop
 row-fits-requires c κs = search needs
 
 returns : tie.Need-returns Inv-loop μ-loop
-returns c = and-no (rowFits (c .before .before .before .before .before .before .args .body .now) (c .before .before .before .loop .a)) _ (sym (c .before .row-fits .ensures) ∙ not-true (c .before .row-fits .result) (c .if1 .taken)) ∙ sym (rows-fit-step (c .before .before .before .before .before .before .args .body .now) (c .before .before .before .loop .m) (c .before .before .before .loop .a) (search needs)) ∙ c .before .before .before .loop .inv .1
+returns c =
+    let some : 0 < c .before .before .before .loop .m = search needs in
+    let r = c .before .row-fits in
+    let l = c .before .before .before in
+    let ws = l .before .before .before .args .body .now in
+    and-no (rowFits ws (l .loop .a)) _ (sym (r .ensures) ∙ not-true (r .result) (c .if1 .taken)) ∙ sym (rows-fit-step ws (l .loop .m) (l .loop .a) some) ∙ l .loop .inv .1
 
 add-a : tie.Need-add-a Inv-loop μ-loop
 add-a c = search needs
@@ -46,13 +51,19 @@ cast-a c = search needs
 
 mul-a : tie.Need-mul-a Inv-loop μ-loop
 mul-a c =
-    let t : rowFits (c .before .before .before .before .before .before .before .args .body .now) (c .before .before .before .before .loop .a) ≡ true = sym (c .before .before .row-fits .ensures) ∙ not-false (c .before .before .row-fits .result) (c .before .if1 .left) in
-    record { fits = omega (arith, row-few (c .before .before .before .before .before .before .before .args .body .now) (c .before .before .before .before .loop .a) (rw t tt), c .word2 .ensures) }
+    let r = c .before .before .row-fits in
+    let l = c .before .before .before .before in
+    let ws = l .before .before .before .args .body .now in
+    let t : rowFits ws (l .loop .a) ≡ true = sym (r .ensures) ∙ not-false (r .result) (c .before .if1 .left) in
+    record { fits = omega (arith, row-few ws (l .loop .a) (rw t tt), c .word2 .ensures) }
 
 add-a-2 : tie.Need-add-a-2 Inv-loop μ-loop
 add-a-2 c =
-    let t : rowFits (c .before .before .before .before .before .before .before .args .body .now) (c .before .before .before .before .loop .a) ≡ true = sym (c .before .before .row-fits .ensures) ∙ not-false (c .before .before .row-fits .result) (c .before .if1 .left) in
-    record { fits = omega (arith, row-few (c .before .before .before .before .before .before .before .args .body .now) (c .before .before .before .before .loop .a) (rw t tt), c .word2 .ensures) }
+    let r = c .before .before .row-fits in
+    let l = c .before .before .before .before in
+    let ws = l .before .before .before .args .body .now in
+    let t : rowFits ws (l .loop .a) ≡ true = sym (r .ensures) ∙ not-false (r .result) (c .before .if1 .left) in
+    record { fits = omega (arith, row-few ws (l .loop .a) (rw t tt), c .word2 .ensures) }
 
 sub-m : tie.Need-sub-m Inv-loop μ-loop
 sub-m c = search needs
@@ -62,10 +73,14 @@ loop-less c = search needs
 
 loop-again : tie.Need-loop-again Inv-loop μ-loop
 loop-again c =
-    let t : rowFits (c .before .before .before .before .before .before .before .args .body .now) (c .before .before .before .before .loop .a) ≡ true = sym (c .before .before .row-fits .ensures) ∙ not-false (c .before .before .row-fits .result) (c .before .if1 .left) in
+    let some : 0 < c .before .before .before .before .loop .m = search needs in
+    let r = c .before .before .row-fits in
+    let l = c .before .before .before .before in
+    let ws = l .before .before .before .args .body .now in
+    let t : rowFits ws (l .loop .a) ≡ true = sym (r .ensures) ∙ not-false (r .result) (c .before .if1 .left) in
     rw (c .word2 .ensures) (
-      row-bound (c .before .before .before .before .before .before .before .args .body .now) (c .before .before .before .before .loop .a) (c .before .before .before .before .loop .m) (rw t tt) (search needs) (c .before .before .before .before .loop .inv .0),
-      and-yes (rowFits (c .before .before .before .before .before .before .before .args .body .now) (c .before .before .before .before .loop .a)) _ t ∙ sym (rows-fit-step (c .before .before .before .before .before .before .before .args .body .now) (c .before .before .before .before .loop .m) (c .before .before .before .before .loop .a) (search needs)) ∙ c .before .before .before .before .loop .inv .1,
+      row-bound ws (l .loop .a) (l .loop .m) (rw t tt) some (l .loop .inv .0),
+      and-yes (rowFits ws (l .loop .a)) _ t ∙ sym (rows-fit-step ws (l .loop .m) (l .loop .a) some) ∙ l .loop .inv .1,
     )
 
 returns-2 : tie.Need-returns-2 Inv-loop μ-loop

@@ -16,7 +16,8 @@ use Rattle.dwarf.proofs.scan_rules.Statement.{statement}
 use Rattle.dwarf.proofs.scan_rules.Tie as tie
 
 abbrev Inv-loop : tie.InvT-loop
-Inv-loop body from n family ra already seen₀ written₀ moved₀ a₀ k₀ seen written moved a k = ScanLeft body family ra already seen₀ from n seen written moved a k × (length (seen .kind) ≡ 64) × (length (seen .value) ≡ 64)
+Inv-loop body from n family ra already seen₀ written₀ moved₀ a₀ k₀ seen written moved a k =
+    ScanLeft body family ra already seen₀ from n seen written moved a k × (length (seen .kind) ≡ 64) × (length (seen .value) ≡ 64)
 
 abbrev μ-loop : tie.MeasureT-loop
 μ-loop body from n family ra already seen₀ written₀ moved₀ a₀ k₀ seen written moved a k = k
@@ -32,7 +33,9 @@ place-requires c κs = search needs
 
 -- the place lies within the arrays
 element-copy-out-both : tie.Need-element-copy-out-both Inv-loop μ-loop
-element-copy-out-both c = rules-place (c .before .before .before .before .before .before .loop .inv .0 .rules) (search needs) (c .before .before .before .before .rule-at .ensures) (c .before .before .before .before .before .before .before .before .pre .2) (search needs) (c .place .ensures)
+element-copy-out-both c =
+    let l = c .before .before .before .before .before .before in
+    rules-place (l .loop .inv .0 .rules) (search needs) (c .before .before .before .before .rule-at .ensures) (l .before .before .pre .2) (search needs) (c .place .ensures)
 
 mul-both : tie.Need-mul-both Inv-loop μ-loop
 mul-both c = record { fits = omega (arith, element-copy-out-both c) }
@@ -83,8 +86,12 @@ either-requires-2 : tie.Need-either-requires-2 Inv-loop μ-loop
 either-requires-2 c κs = search needs
 
 -- the next place is a number of the code
-add-fits : (c : tie.After-either2 Inv-loop μ-loop) → Fits w64 (c .before .before .before .before .before .before .before .before .before .before .before .before .before .before .before .before .before .before .loop .a + 4)
-add-fits c = record { fits = omega (arith, c .before .before .before .before .before .before .before .before .before .before .before .before .before .before .before .before .before .before .loop .inv .0 .rules .at) }
+add-fits : (c : tie.After-either2 Inv-loop μ-loop) →
+    let l = c .before .before .before .before .before .before .before .before .before .before .before .before .before .before .before .before .before .before .loop in
+    Fits w64 (l .a + 4)
+add-fits c =
+    let l = c .before .before .before .before .before .before .before .before .before .before .before .before .before .before .before .before .before .before .loop in
+    record { fits = omega (arith, l .inv .0 .rules .at) }
 
 add-a : tie.Need-add-a Inv-loop μ-loop
 add-a c = search (needs, add-fits)
@@ -103,7 +110,12 @@ turn : (c : tie.After-either2 Inv-loop μ-loop) →
     let x = c .before .before .before .before .before .before .before .before .before .before .before .before .before .before .before .before .rule-at .result in
     let q = c .before .before .before .before .before .before .before .before .before .before .before .before .place .result in
     ScanLeft (a .body .now) (a .family) (a .ra) (a .already) (a .rules) (a .from) (a .n)
-    (record { register = set (s .register) q (x .register); kind = set (s .kind) q (x .kind); value = set (s .value) q (x .value); count = c .before .before .before .before .before .count-behind .result })
+    (record {
+      register = set (s .register) q (x .register);
+      kind = set (s .kind) q (x .kind);
+      value = set (s .value) q (x .value);
+      count = c .before .before .before .before .before .count-behind .result;
+    })
     (c .before .before .before .either .result) (c .either2 .result) (l .loop .a + 4) (l .loop .k - 1)
     × (length (set (s .kind) q (x .kind)) ≡ 64) × (length (set (s .value) q (x .value)) ≡ 64)
 turn c =
@@ -122,9 +134,11 @@ turn c =
     let room = rules-room (l .loop .inv .0 .rules) some rule-is (l .before .before .pre .2) in
     let counts = stored-counts s (x .register) (x .kind) (x .value) lr lk lv room place-is (c5 .count-behind .ensures) in
     let sees = stored-sees s (x .register) (x .kind) (x .value) lr lk lv room place-is (c5 .count-behind .ensures) in
+    let writes : Bool → Bool = λ t. any (cond t (ruleBytes (a .family) (a .ra) x) []) in
     let changed = change-is s (x .register) (x .kind) (x .value) lr lk lv room place-is (c5 .before .before .both .ensures) (both2 .ensures) in
     let next = scan-turn (l .loop .inv .0) some rule-is (l .before .before .pre .2) counts sees
-    (c .before .before .before .either .ensures ∙ ap (λ (t : Bool). l .loop .written || t) (_∙_ {b = any (cond (not (both2 .result)) (ruleBytes (a .family) (a .ra) x) [])} (c .before .before .before .before .rule-written .ensures) (ap (λ (t : Bool). any (cond t (ruleBytes (a .family) (a .ra) x) [])) changed)))
+    (c .before .before .before .either .ensures ∙ ap (λ (t : Bool). l .loop .written || t)
+    (_∙_ {b = writes (not (both2 .result))} (c .before .before .before .before .rule-written .ensures) (ap writes changed)))
     (c .either2 .ensures ∙ ap (λ (t : Bool). l .loop .moved || t) (c .before .both3 .ensures ∙ ap (λ (t : Bool). eqb (x .register) (a .ra) && t) changed)) in
     (next, length-set (s .kind) _ _ ∙ lk, length-set (s .value) _ _ ∙ lv)
 

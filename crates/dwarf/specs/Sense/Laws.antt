@@ -1,18 +1,17 @@
 -- The text of a DWARF entry as its rows are run is the text of its sense, and the lines are well formed.
 use mathlib.Core.Path.{_≡_, refl, sym, ap, ap₂, _∙_, fun-ext}
 use Prim.Native.Nat.{ℕ, zero, suc, _+_, _-_}
-use mathlib.Core.Bool.{Bool, true, false, not, cond, _&&_, _||_, false≢true}
+use mathlib.Core.Bool.{Bool, true, false, not, cond, _&&_, _||_}
 use mathlib.Core.List.{List, [], _∷_, _++_, append-assoc, append-nil}
 use lib.IntN.{ℤ}
-use native.Mathlib.Decide.{ℕ-discrete}
-use borrow.Author.Tests.{eq-eqb, ne-eqb}
+use borrow.Author.Tests.{eqb-false}
 use lib.Dec.{T, eqb, leb}
 use Rattle.text.specs.Text.{ascii}
 use Rattle.text.specs.Digits.{hex, signed}
 use Rattle.text.specs.Tests.{all, all-append, and-l, and-r, both, either}
 use Rattle.names.specs.Names.{cfiName}
 use Rattle.lines.specs.Lines.{Bytes, Form, register, registerPlus, cfaPlus, atCfaPlus, Rule, rule, init, later, cfa, formText, ruleText, rulesText, initText, laterText, lineText, render, nameOk, registerOk, formOk, ruleOk, lineOk}
-use Rattle.lines.specs.Lines.Laws.{rules-append, render-append, render-none}
+use Rattle.lines.specs.Lines.Laws.{rules-append, render-append, render-unless}
 use Rattle.lines.specs.Rules.Laws.{cfi-ok}
 use Rattle.entry.specs.declared.Last.{Last}
 use Rattle.entry.specs.Entry.Laws.{Accepted, accepted}
@@ -80,21 +79,15 @@ unfolding seenBy
 after-row ds w r =
     after-rules (seenBy (lastRule ds)) (w .rules) r ∙ sym (or-seen (ruleFor r (w .rules)) (lastRule ds r) never) ∙ ap (λ (xs : List RegisterRule). orSeen xs never) (sym (rule-snoc ds w r))
 
-swapped : (a b : ℕ) → eqb a b ≡ eqb b a
-swapped a b = elim (ℕ-discrete a b) [
-  | yes e ↦ rw (eq-eqb a b e, eq-eqb b a (sym e))
-  | no n ↦ rw (ne-eqb a b n, ne-eqb b a (λ e. n (sym e)))
-]
-
 rule-differs : (ys : List RegisterRule) (x : RegisterRule) → differs (orSeen ys never) (x .kind) (x .value) ≡ ruleDiffers ys x
 unfolding orSeen ruleDiffers
 rule-differs [] x = refl
-rule-differs (y ∷ ys) x = rw (swapped (x .kind) (y .kind), swapped (x .value) (y .value))
+rule-differs (y ∷ ys) x = refl
 
 cfa-differs : (ys : List CfaRule) (x : CfaRule) → cfaDiffers (cfaSeen ys) x ≡ cfaChanges ys x
 unfolding cfaSeen cfaChanges
 cfa-differs [] x = refl
-cfa-differs (y ∷ ys) x = rw (swapped (x .kind) (y .kind), swapped (x .register) (y .register), swapped (x .offset) (y .offset))
+cfa-differs (y ∷ ys) x = refl
 
 -- ---- what is written is the text of the rules
 
@@ -272,20 +265,15 @@ dwarf-text b h = sym (rows-ran b [] noCfa nothingSeen (rows b) refl refl (rows-o
 
 -- ---- an entry that is not refused: its text is that of its lines, unless it is skipped
 
-reached : (b : List ℕ) → eqb (dwarfReach b) 0 ≡ false → dwarfReach b ≡ 0 → ⊥
-reached b e z = false≢true (sym e ∙ eq-eqb (dwarfReach b) 0 z)
-
 pub dwarf-accepted : (last : Last) (b : List ℕ) → dwarfEntry last b .number ≡ 0 → Accepted (dwarfLayout b) (dwarfSkipped b) (dwarfJudged b) (dwarfText b) last last
 unfolding dwarfEntry dwarfJudged
-dwarf-accepted last b = accepted (dwarfLayout b) (dwarfSkipped b) (eqb (dwarfReach b) 0) (dwarfReach b) (dwarfText b) last last (reached b)
+dwarf-accepted last b = accepted (dwarfLayout b) (dwarfSkipped b) (eqb (dwarfReach b) 0) (dwarfReach b) (dwarfText b) last last (eqb-false (dwarfReach b) 0)
 
 pub dwarf-entry-text : (last : Last) (b : List ℕ) → dwarfEntry last b .number ≡ 0 → dwarfEntry last b .text ≡ render false (cond (dwarfSkipped b) [] (dwarfLines b))
 unfolding dwarfEntry
-dwarf-entry-text last b e = let a = dwarf-accepted last b e in a .text-is ∙ go (dwarfSkipped b) (dwarf-text b (layout-rows b (a .keeps)))
-  where
-    go : (t : Bool) → dwarfText b ≡ render false (dwarfLines b) → cond t [] (dwarfText b) ≡ render false (cond t [] (dwarfLines b))
-    go true h = render-none false
-    go false h = h
+dwarf-entry-text last b e =
+    let a = dwarf-accepted last b e in
+    a .text-is ∙ render-unless false (dwarfSkipped b) (dwarfText b) (dwarfLines b) (dwarf-text b (layout-rows b (a .keeps)))
 
 -- ---- the lines are well formed
 

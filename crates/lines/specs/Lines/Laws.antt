@@ -2,7 +2,7 @@
 use mathlib.Core.Path.{_≡_, refl, sym}
 use Prim.Native.Nat.{ℕ, _-_}
 use native.Mathlib.Omega.{arith}
-use mathlib.Core.Bool.{Bool}
+use mathlib.Core.Bool.{Bool, true, false, cond}
 use mathlib.Core.List.{List, [], _∷_, _++_, append-assoc}
 use borrow.Author.Tests.{le-ltb}
 use lib.IntN.{pos, subℕ}
@@ -18,9 +18,11 @@ unfolding render
 render-append six [] ms = refl
 render-append six (l ∷ ls) ms = rw (render-append six ls ms) (sym (append-assoc (lineText six l) (render six ls) (render six ms)))
 
-pub render-none : (six : Bool) → [] ≡ render six []
+-- the text of lines that are left out, or not, is left out with them
+pub render-unless : (six out : Bool) (text : Bytes) (ls : List Line) → text ≡ render six ls → cond out [] text ≡ render six (cond out [] ls)
 unfolding render
-render-none six = refl
+render-unless six true text ls e = refl
+render-unless six false text ls e = e
 
 -- what stands in a row: a beginning, a register, a space, a number, the operators
 pub row : (i r s n o : Bytes) → i ++ (r ++ (s ++ n ++ o)) ≡ i ++ r ++ s ++ n ++ o

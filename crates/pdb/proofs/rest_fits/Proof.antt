@@ -1,17 +1,27 @@
 -- `rest_fits`: test by test, over the lists as they lie in the body.
-use Prim.Native.Nat.{_+_, _*_}
+use Prim.Native.Nat.{ℕ, _+_, _*_}
 use mathlib.Core.Path.{_≡_, sym, ap, _∙_}
-use mathlib.Core.Bool.{true, false}
+use mathlib.Core.Bool.{Bool, true, false}
+use mathlib.Core.List.{List}
 use lib.ListN.{length}
 use borrow.Author.Tests.{eq-eqb, ne-eqb, not-true, not-false}
 use Rattle.text.specs.Tests.{all}
 use Rattle.entry.specs.Entry.{word}
+use Rattle.pdb.specs.declared.Range.{Range}
 use Rattle.pdb.specs.Pdb.{prologs, codes, rangesFit, printable, restFits}
 use Rattle.pdb.specs.Index.{prologs-at, codes-at, program-at, counts-prologs, counts-codes, counts-length}
 use native.Mathlib.Omega.{arith}
 use borrow.Author.Needs.{needs}
 use Rattle.pdb.proofs.rest_fits.Statement.{statement}
 use Rattle.pdb.proofs.rest_fits.Tie as tie
+
+-- the words that the counts demand
+abbrev demanded : List ℕ → ℕ
+demanded ws = 15 + 2 * word ws 12 + 2 * word ws 13 + word ws 14
+
+-- a test of a list, from the code's answer for it
+told : (rs qs : List Range) (r t : Bool) → rs ≡ qs → r ≡ rangesFit rs → r ≡ t → rangesFit qs ≡ t
+told rs qs r t e f g = ap rangesFit (sym e) ∙ sym f ∙ g
 
 word-requires : tie.Need-word-requires
 word-requires c κs = search needs
@@ -53,7 +63,8 @@ returns c =
     let c3 = c2 .before in
     let c5 = c3 .before .before in
     let ws = c5 .args .body .now in
-    rw (ne-eqb (15 + 2 * word ws 12 + 2 * word ws 13 + word ws 14) (length ws) (λ e. c .if1 .taken (omega (arith, e, c3 .word .ensures, c2 .word2 .ensures, c .before .word3 .ensures))))
+    rw (ne-eqb (demanded ws) (length ws)
+    (λ e. c .if1 .taken (omega (arith, e, c3 .word .ensures, c2 .word2 .ensures, c .before .word3 .ensures))))
 
 ranges-fit-requires : tie.Need-ranges-fit-requires
 ranges-fit-requires c κs =
@@ -70,9 +81,11 @@ returns-2 c =
     let c5 = c4 .before in
     let c7 = c5 .before .before in
     let ws = c7 .args .body .now in
-    let e : 15 + 2 * word ws 12 + 2 * word ws 13 + word ws 14 ≡ length ws = omega (arith, c5 .word .ensures, c4 .word2 .ensures, c3 .word3 .ensures, c2 .if1 .left) in
-    let f : rangesFit (prologs ws) ≡ false = ap rangesFit (sym (prologs-at ws (c5 .word .result) (c5 .word .ensures))) ∙ sym (c .before .ranges-fit .ensures) ∙ not-true (c .before .ranges-fit .result) (c .if2 .taken) in
-    rw (eq-eqb (15 + 2 * word ws 12 + 2 * word ws 13 + word ws 14) (length ws) e, f)
+    let e : demanded ws ≡ length ws = omega (arith, c5 .word .ensures, c4 .word2 .ensures, c3 .word3 .ensures, c2 .if1 .left) in
+    let ps = c .before .ranges-fit in
+    let f : rangesFit (prologs ws) ≡ false
+    = told _ _ (ps .result) false (prologs-at ws (c5 .word .result) (c5 .word .ensures)) (ps .ensures) (not-true (ps .result) (c .if2 .taken)) in
+    rw (eq-eqb (demanded ws) (length ws) e, f)
 
 ranges-fit-requires-2 : tie.Need-ranges-fit-requires-2
 ranges-fit-requires-2 c κs =
@@ -92,10 +105,14 @@ returns-3 c =
     let c7 = c6 .before in
     let c9 = c7 .before .before in
     let ws = c9 .args .body .now in
-    let e : 15 + 2 * word ws 12 + 2 * word ws 13 + word ws 14 ≡ length ws = omega (arith, c7 .word .ensures, c6 .word2 .ensures, c5 .word3 .ensures, c4 .if1 .left) in
-    let f : rangesFit (prologs ws) ≡ true = ap rangesFit (sym (prologs-at ws (c7 .word .result) (c7 .word .ensures))) ∙ sym (c3 .ranges-fit .ensures) ∙ not-false (c3 .ranges-fit .result) (c2 .if2 .left) in
-    let g : rangesFit (codes ws) ≡ false = ap rangesFit (sym (codes-at ws (c7 .word .result) (c6 .word2 .result) (c7 .word .ensures) (c6 .word2 .ensures))) ∙ sym (c .before .ranges-fit2 .ensures) ∙ not-true (c .before .ranges-fit2 .result) (c .if3 .taken) in
-    rw (eq-eqb (15 + 2 * word ws 12 + 2 * word ws 13 + word ws 14) (length ws) e, f, g)
+    let e : demanded ws ≡ length ws = omega (arith, c7 .word .ensures, c6 .word2 .ensures, c5 .word3 .ensures, c4 .if1 .left) in
+    let ps = c3 .ranges-fit in
+    let f : rangesFit (prologs ws) ≡ true
+    = told _ _ (ps .result) true (prologs-at ws (c7 .word .result) (c7 .word .ensures)) (ps .ensures) (not-false (ps .result) (c2 .if2 .left)) in
+    let cs = c .before .ranges-fit2 in
+    let at = codes-at ws (c7 .word .result) (c6 .word2 .result) (c7 .word .ensures) (c6 .word2 .ensures) in
+    let g : rangesFit (codes ws) ≡ false = told _ _ (cs .result) false at (cs .ensures) (not-true (cs .result) (c .if3 .taken)) in
+    rw (eq-eqb (demanded ws) (length ws) e, f, g)
 
 bytes-fit-requires : tie.Need-bytes-fit-requires
 bytes-fit-requires c κs =
@@ -103,7 +120,10 @@ bytes-fit-requires c κs =
     let c6 = c5 .before in
     let c7 = c6 .before in
     let c9 = c7 .before .before in
-    (omega (arith, counts-prologs (c9 .args .body .now) (c9 .pre), counts-codes (c9 .args .body .now) (c9 .pre), c7 .word .ensures, c6 .word2 .ensures), omega (arith, counts-length (c9 .args .body .now) (c9 .pre), c5 .word3 .ensures))
+    let ws = c9 .args .body .now in (
+      omega (arith, counts-prologs ws (c9 .pre), counts-codes ws (c9 .pre), c7 .word .ensures, c6 .word2 .ensures),
+      omega (arith, counts-length ws (c9 .pre), c5 .word3 .ensures),
+    )
 
 returns-4 : tie.Need-returns-4
 unfolding restFits
@@ -117,10 +137,14 @@ returns-4 c =
     let c8 = c7 .before in
     let c10 = c8 .before .before in
     let ws = c10 .args .body .now in
-    let e : 15 + 2 * word ws 12 + 2 * word ws 13 + word ws 14 ≡ length ws = omega (arith, c8 .word .ensures, c7 .word2 .ensures, c6 .word3 .ensures, c5 .if1 .left) in
-    let f : rangesFit (prologs ws) ≡ true = ap rangesFit (sym (prologs-at ws (c8 .word .result) (c8 .word .ensures))) ∙ sym (c4 .ranges-fit .ensures) ∙ not-false (c4 .ranges-fit .result) (c3 .if2 .left) in
-    let g : rangesFit (codes ws) ≡ true = ap rangesFit (sym (codes-at ws (c8 .word .result) (c7 .word2 .result) (c8 .word .ensures) (c7 .word2 .ensures))) ∙ sym (c2 .ranges-fit2 .ensures) ∙ not-false (c2 .ranges-fit2 .result) (c .before .if3 .left) in
-    rw (eq-eqb (15 + 2 * word ws 12 + 2 * word ws 13 + word ws 14) (length ws) e, f, g)
+    let e : demanded ws ≡ length ws = omega (arith, c8 .word .ensures, c7 .word2 .ensures, c6 .word3 .ensures, c5 .if1 .left) in
+    let ps = c4 .ranges-fit in
+    let f : rangesFit (prologs ws) ≡ true
+    = told _ _ (ps .result) true (prologs-at ws (c8 .word .result) (c8 .word .ensures)) (ps .ensures) (not-false (ps .result) (c3 .if2 .left)) in
+    let cs = c2 .ranges-fit2 in
+    let at = codes-at ws (c8 .word .result) (c7 .word2 .result) (c8 .word .ensures) (c7 .word2 .ensures) in
+    let g : rangesFit (codes ws) ≡ true = told _ _ (cs .result) true at (cs .ensures) (not-false (cs .result) (c .before .if3 .left)) in
+    rw (eq-eqb (demanded ws) (length ws) e, f, g)
     (c .bytes-fit .ensures ∙ ap (all printable) (program-at ws (c8 .word .result) (c7 .word2 .result) (c6 .word3 .result) (c8 .word .ensures) (c7 .word2 .ensures) (c6 .word3 .ensures)))
 
 pub rest-fits-spec : {M : Type 1} → statement M

@@ -12,7 +12,7 @@ use Rattle.text.specs.Digits.{digit, hex}
 use Rattle.text.specs.Digits.Laws.{hex-all}
 use Rattle.lines.specs.declared.StackInfo.{StackInfo}
 use Rattle.lines.specs.Lines.{lineText, render, lineOk}
-use Rattle.lines.specs.Lines.Laws.{render-append, render-none}
+use Rattle.lines.specs.Lines.Laws.{render-append, render-unless}
 use Rattle.entry.specs.declared.Last.{Last}
 use Rattle.entry.specs.Entry.{word}
 use Rattle.entry.specs.Entry.Laws.{Accepted, accepted}
@@ -140,6 +140,10 @@ both-text : (ws : List ℕ) (p c : Range) → bothText ws p c ≡ render false (
 unfolding bothText bothFields render
 both-text ws p c = line-text ws (startOf p) (endOf c) (endOf p - startOf p) ∙ sym (append-nil _)
 
+list-text : (ws : List ℕ) (prolog : Bool) (rs : List Range)
+    → rangesText ws prolog (sorted rs) ≡ render false (map (winLine ws) (byStart (map (fields ws (prologOf prolog)) rs)))
+list-text ws prolog rs = rw (by-start ws (prologOf prolog) rs) (ranges-text ws prolog (sorted rs))
+
 lists-text : (ws : List ℕ) (ps cs : List Range)
     → rangesText ws true (sorted ps) ++ rangesText ws false (sorted cs)
     ≡ render false (map (winLine ws) (byStart (map (prologFields ws) ps) ++ byStart (map (codeFields ws) cs)))
@@ -147,9 +151,8 @@ unfolding prologFields codeFields prologOf
 lists-text ws ps cs =
     let is : List StackInfo = byStart (map (prologFields ws) ps) in
     let js : List StackInfo = byStart (map (codeFields ws) cs) in
-    let p : rangesText ws true (sorted ps) ≡ render false (map (winLine ws) is) = ranges-text ws true (sorted ps) ∙ ap (λ (l : List StackInfo). render false (map (winLine ws) l)) (sym (by-start ws (prologOf true) ps)) in
-    let c : rangesText ws false (sorted cs) ≡ render false (map (winLine ws) js) = ranges-text ws false (sorted cs) ∙ ap (λ (l : List StackInfo). render false (map (winLine ws) l)) (sym (by-start ws (prologOf false) cs)) in
-    ap₂ (λ (s t : List ℕ). s ++ t) p c ∙ sym (render-append false (map (winLine ws) is) (map (winLine ws) js)) ∙ ap (render false) (sym (map-append (winLine ws) is js))
+    ap₂ (λ (s t : List ℕ). s ++ t) (list-text ws true ps) (list-text ws false cs)
+    ∙ sym (render-append false (map (winLine ws) is) (map (winLine ws) js)) ∙ ap (render false) (sym (map-append (winLine ws) is js))
 
 pub pdb-text : (ws : List ℕ) → pdbText ws ≡ render false (pdbLines ws)
 unfolding pdbText pdbLines stackInfos
@@ -168,11 +171,7 @@ pdb-accepted last ws = accepted (pdbLayout ws) (pdbSkipped last ws) (inReach ws)
 
 pub pdb-entry-text : (last : Last) (ws : List ℕ) → pdbEntry last ws .number ≡ 0 → pdbEntry last ws .text ≡ render false (cond (pdbSkipped last ws) [] (pdbLines ws))
 unfolding pdbEntry
-pdb-entry-text last ws e = pdb-accepted last ws e .text-is ∙ go (pdbSkipped last ws)
-  where
-    go : (t : Bool) → cond t [] (pdbText ws) ≡ render false (cond t [] (pdbLines ws))
-    go true = render-none false
-    go false = pdb-text ws
+pdb-entry-text last ws e = pdb-accepted last ws e .text-is ∙ render-unless false (pdbSkipped last ws) (pdbText ws) (pdbLines ws) (pdb-text ws)
 
 -- what an entry leaves to the next is what the last body not skipped has
 pub pdb-entry-next : (ds : List (List ℕ)) (ws : List ℕ) → pdbEntry (lastUnskipped ds) ws .number ≡ 0 → pdbEntry (lastUnskipped ds) ws .next ≡ lastUnskipped (ws ∷ ds)

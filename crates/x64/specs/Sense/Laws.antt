@@ -4,8 +4,8 @@ use Prim.Native.Nat.{ℕ, _+_, _-_, _*_}
 use native.Mathlib.Nat.{add-assoc}
 use native.Mathlib.Numerals.{add-one}
 use native.Mathlib.Omega.{arith}
-use borrow.Author.Tests.{eq-eqb, ne-eqb}
-use mathlib.Core.Bool.{Bool, true, false, not, cond, false≢true}
+use borrow.Author.Tests.{eqb-false, ne-eqb}
+use mathlib.Core.Bool.{Bool, true, false, not, cond}
 use mathlib.Core.List.{List, [], _∷_, _++_, map, append-nil, append-assoc, map-append}
 use lib.ListN.{length, getD, take, length-append}
 use lib.Seq.{take-append-seam, getD-append-seam, append-snoc}
@@ -16,7 +16,7 @@ use Rattle.text.specs.Tests.{is-true, all, all-append, and-l, both}
 use Rattle.text.specs.Digits.{hex}
 use Rattle.names.specs.Names.{peName}
 use Rattle.lines.specs.Lines.{Bytes, Form, registerPlus, atCfaMinus, rule, init, cfa, ruleText, rulesText, initText, lineText, render, nameOk, registerOk, formOk, ruleOk, lineOk}
-use Rattle.lines.specs.Lines.Laws.{rules-append, render-none}
+use Rattle.lines.specs.Lines.Laws.{rules-append, render-unless}
 use Rattle.lines.specs.Rules.Laws.{pe-ok}
 use Rattle.entry.specs.declared.Last.{Last}
 use Rattle.entry.specs.Entry.{word}
@@ -201,23 +201,16 @@ x64-ok ws =
 
 -- ---- an entry that is not refused: its text is that of its line, unless it is skipped
 
-reached : (limit : ℕ) (ws : List ℕ) → eqb (x64Reach limit ws) 0 ≡ false → x64Reach limit ws ≡ 0 → ⊥
-reached limit ws e z = false≢true (sym e ∙ eq-eqb (x64Reach limit ws) 0 z)
-
 pub x64-accepted : (limit : ℕ) (last : Last) (ws : List ℕ) → x64Entry limit last ws .number ≡ 0
     → Accepted (x64Layout ws) (x64Skipped limit ws) (x64Judged limit ws) (x64Text ws) last last
 unfolding x64Entry x64Judged
 x64-accepted limit last ws =
-    accepted (x64Layout ws) (x64Skipped limit ws) (eqb (x64Reach limit ws) 0) (x64Reach limit ws) (x64Text ws) last last (reached limit ws)
+    accepted (x64Layout ws) (x64Skipped limit ws) (eqb (x64Reach limit ws) 0) (x64Reach limit ws) (x64Text ws) last last (eqb-false (x64Reach limit ws) 0)
 
 pub x64-entry-text : (limit : ℕ) (last : Last) (ws : List ℕ) → x64Entry limit last ws .number ≡ 0
     → x64Entry limit last ws .text ≡ render false (cond (x64Skipped limit ws) [] (x64Lines ws))
 unfolding x64Entry x64Lines
-x64-entry-text limit last ws e = x64-accepted limit last ws e .text-is ∙ go (x64Skipped limit ws)
-  where
-    go : (t : Bool) → cond t [] (x64Text ws) ≡ render false (cond t [] (x64Line ws ∷ []))
-    go true = render-none false
-    go false = x64-text ws
+x64-entry-text limit last ws e = x64-accepted limit last ws e .text-is ∙ render-unless false (x64Skipped limit ws) (x64Text ws) (x64Lines ws) (x64-text ws)
 
 pub x64-entry-ok : (ws : List ℕ) → T (all lineOk (x64Lines ws))
 unfolding x64Lines
