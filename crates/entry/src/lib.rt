@@ -1,6 +1,11 @@
 // One entry of a book, of whatever kind: its words, what it comes to and what it leaves to the next.
+// The numbers of refusals have names here, as the C header has them.
+
+pub mod refusal;
+
 ghost use mathlib.Core.Path.{_≡_};
-ghost use mathlib.Core.Bool.{_&&_};
+ghost use mathlib.Core.Bool.{_&&_, _||_};
+ghost use Prim.Native.Nat.{_-_};
 ghost use lib.ListN.{getD};
 ghost use Rattle.entry.specs.Entry.{noLast};
 
@@ -51,6 +56,7 @@ pub fn word(words: &[u32], i: usize) -> u32
     0
 }
 
+// `a && b` as a value. `&&` itself is a branch: every fact behind it is proved twice, and a loop with it jumps at each turn.
 pub fn both(a: bool, b: bool) -> bool
     ensures { λ r. ⌜ r ≡ (a && b) ⌝ }
 {
@@ -58,4 +64,24 @@ pub fn both(a: bool, b: bool) -> bool
         return b;
     }
     false
+}
+
+// `a || b` as a value, for the same reason.
+pub fn either(a: bool, b: bool) -> bool
+    ensures { λ r. ⌜ r ≡ (a || b) ⌝ }
+{
+    if a {
+        return true;
+    }
+    b
+}
+
+// a - b, and 0 where b is the larger.
+pub fn saturating_sub(a: u64, b: u64) -> u64
+    ensures { λ r. ⌜ r ≡ a - b ⌝ }
+{
+    if b <= a {
+        return a - b;
+    }
+    0
 }

@@ -11,7 +11,8 @@ use Rattle.text.specs.Text.Laws.{left-all, left-put, left-as, left-none}
 use Rattle.text.specs.Tests.{and-l, and-r}
 use Rattle.entry.specs.Entry.{word}
 use Rattle.x64.specs.X64.{infoCount, chain, growthOf, valueOf, run, opText, infoFits, infosFit, x64Layout}
-use Rattle.x64.specs.Index.{opAt, opsRun, infoOps, nextInfo, chainFrom, growths, within, reaches, ops-step, chain-step, chain-run, infos-fit-step, count-small, layout-infos, layout-few, run-append, reaches-append, reaches-small}
+use Rattle.x64.specs.Index.{opAt, opsRun, infoOps, nextInfo, chainFrom, growths, within, reaches}
+use Rattle.x64.specs.Index.{ops-step, chain-step, chain-run, infos-fit-step, count-small, layout-infos, layout-few, run-append, reaches-append, reaches-small}
 
 -- k operations of an info are left, at total s
 pub record OpsLeft (ws : List ℕ) (f o a : ℕ) (d : List ℕ) (at : ℕ) (t : List ℕ) (e : ℕ) (d₁ : List ℕ) (p s k : ℕ) : Type 0 where

@@ -10,7 +10,8 @@ use Rattle.x64.specs.declared.Scan.{Scan}
 use Rattle.entry.specs.Entry.{word}
 use Rattle.x64.specs.X64.{infoCount, chain, infoFits, infosFit, x64Layout, undecodableOps, undecodableInfos}
 use Rattle.x64.specs.Index.{opAt, opsRun, infoOps, nextInfo, chainFrom, ops-step, chain-step, chain-run, infos-fit-step, count-small, undecodable-step, info-bound, layout-infos, layout-few}
-use Rattle.x64.specs.Scan.{scanStep, scanned, scanStart, scanned-append}
+use Rattle.x64.specs.Scan.{scanStep, scanned, scanStart}
+use Rattle.x64.specs.Scan.Laws.{scanned-append}
 
 pub record OpsScan (ws : List ℕ) (f o a : ℕ) (z s : Scan) (k : ℕ) : Type 0 where
   pub small : s .total < 2 ^ 31

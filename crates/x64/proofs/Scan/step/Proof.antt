@@ -2,7 +2,8 @@
 use Prim.Native.Nat.{_+_, _^_, _<_}
 use mathlib.Core.Path.{ap, _∙_}
 use Rattle.x64.specs.X64.{growthOf, valueOf}
-use Rattle.x64.specs.Scan.{lose, advance, growth-small, step-lost, step-value, step-total, step-on, advance-total}
+use Rattle.x64.specs.Scan.{lose, advance}
+use Rattle.x64.specs.Scan.Laws.{growth-small, step-lost, step-value, step-total, step-on, advance-total}
 use native.Mathlib.Omega.{arith}
 use borrow.Author.Needs.{needs}
 use Rattle.x64.proofs.Scan.step.Statement.{statement}

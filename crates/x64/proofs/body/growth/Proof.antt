@@ -1,0 +1,91 @@
+-- `growth`: by cases of the operation, each the definition's.
+use Rattle.x64.specs.X64.{growthOf}
+use borrow.Author.Needs.{needs}
+use Rattle.x64.proofs.body.growth.Statement.{statement}
+use Rattle.x64.proofs.body.growth.Tie as tie
+
+enum-told : tie.Need-enum-told
+enum-told c = search needs
+
+enum-known-op : tie.Need-enum-known-op
+enum-known-op c = search needs
+
+cast-result : tie.Need-cast-result
+cast-result c = search needs
+
+enum-known-op-2 : tie.Need-enum-known-op-2
+enum-known-op-2 c = search needs
+
+enum-told-2 : tie.Need-enum-told-2
+enum-told-2 c = search needs
+
+enum-told-3 : tie.Need-enum-told-3
+enum-told-3 c = search needs
+
+enum-told-4 : tie.Need-enum-told-4
+enum-told-4 c = search needs
+
+enum-told-5 : tie.Need-enum-told-5
+enum-told-5 c = search needs
+
+enum-told-6 : tie.Need-enum-told-6
+enum-told-6 c = search needs
+
+returns : tie.Need-returns
+unfolding growthOf
+returns c = rw (c .enum-told .given .1)
+
+returns-2 : tie.Need-returns-2
+unfolding growthOf
+returns-2 c = rw (c .before .op .given .1)
+
+returns-3 : tie.Need-returns-3
+unfolding growthOf
+returns-3 c = rw (c .before .before .op2 .given .1, c .if1 .taken)
+
+returns-4 : tie.Need-returns-4
+unfolding growthOf
+returns-4 c = rw (c .before .before .op2 .given .1, c .if1 .left)
+
+returns-5 : tie.Need-returns-5
+unfolding growthOf
+returns-5 c = rw (c .enum-told2 .given .1)
+
+returns-6 : tie.Need-returns-6
+unfolding growthOf
+returns-6 c = rw (c .enum-told3 .given .1)
+
+returns-7 : tie.Need-returns-7
+unfolding growthOf
+returns-7 c = rw (c .enum-told4 .given .1)
+
+returns-8 : tie.Need-returns-8
+unfolding growthOf
+returns-8 c = rw (c .enum-told5 .given .1)
+
+returns-9 : tie.Need-returns-9
+unfolding growthOf
+returns-9 c = rw (c .enum-told6 .given .1)
+
+pub growth-spec : {M : Type 1} → statement M
+growth-spec =
+    tie.close
+    (tie.spec
+    enum-told
+    enum-known-op
+    cast-result
+    enum-known-op-2
+    enum-told-2
+    enum-told-3
+    enum-told-4
+    enum-told-5
+    enum-told-6
+    returns
+    returns-2
+    returns-3
+    returns-4
+    returns-5
+    returns-6
+    returns-7
+    returns-8
+    returns-9)

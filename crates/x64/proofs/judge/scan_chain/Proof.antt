@@ -1,0 +1,109 @@
+-- `scan_chain`: scanning the infos left gives what scanning the chain gives (`ChainScan`).
+use Rattle.x64.specs.X64.{chain}
+use Rattle.x64.specs.Scan.{scanned, scanStart}
+use Rattle.x64.proofs.Passes.{ChainScan, scan-all, scan-few, info-turn, chain-scanned}
+use borrow.Author.Needs.{needs}
+use native.Mathlib.Omega.{arith}
+use Rattle.x64.proofs.judge.scan_chain.Statement.{statement}
+use Rattle.x64.proofs.judge.scan_chain.Tie as tie
+
+abbrev Inv-loop : tie.InvT-loop
+Inv-loop body s₀ a₀ m₀ s a m = ChainScan body (scanned scanStart (chain body)) s a m
+
+abbrev μ-loop : tie.MeasureT-loop
+μ-loop body s₀ a₀ m₀ s a m = m
+
+start-requires : tie.Need-start-requires Inv-loop μ-loop
+start-requires c κs = search needs
+
+word-requires : tie.Need-word-requires Inv-loop μ-loop
+word-requires c κs = search needs
+
+cast-m : tie.Need-cast-m Inv-loop μ-loop
+cast-m c = search needs
+
+loop-holds : tie.Need-loop-holds Inv-loop μ-loop
+loop-holds c = rw (c .word .ensures, c .before .start .ensures) (scan-all (c .before .before .before .pre))
+
+word-requires-2 : tie.Need-word-requires-2 Inv-loop μ-loop
+word-requires-2 c κs = search needs
+
+add-word : tie.Need-add-word Inv-loop μ-loop
+add-word c = search needs
+
+word-requires-3 : tie.Need-word-requires-3 Inv-loop μ-loop
+word-requires-3 c κs = search needs
+
+add-word-2 : tie.Need-add-word-2 Inv-loop μ-loop
+add-word-2 c = search needs
+
+word-requires-4 : tie.Need-word-requires-4 Inv-loop μ-loop
+word-requires-4 c κs = search needs
+
+cast-n : tie.Need-cast-n Inv-loop μ-loop
+cast-n c = search needs
+
+add-scan-ops : tie.Need-add-scan-ops Inv-loop μ-loop
+add-scan-ops c = search needs
+
+scan-ops-requires : tie.Need-scan-ops-requires Inv-loop μ-loop
+scan-ops-requires c κs = (
+  omega arith,
+  omega (arith, scan-few (c .before .before .before .before .loop .inv) (search needs), c .word4 .ensures),
+  search needs,
+)
+
+add-a : tie.Need-add-a Inv-loop μ-loop
+add-a c = search needs
+
+mul-a : tie.Need-mul-a Inv-loop μ-loop
+mul-a c =
+    let loop = c .before .before .before .before .before .loop in
+    record { fits = omega (arith, scan-few (loop .inv) (search needs), c .before .word4 .ensures) }
+
+add-a-2 : tie.Need-add-a-2 Inv-loop μ-loop
+add-a-2 c =
+    let loop = c .before .before .before .before .before .loop in
+    record { fits = omega (arith, scan-few (loop .inv) (search needs), c .before .word4 .ensures) }
+
+sub-m : tie.Need-sub-m Inv-loop μ-loop
+sub-m c = search needs
+
+loop-less : tie.Need-loop-less Inv-loop μ-loop
+loop-less c = search needs
+
+loop-again : tie.Need-loop-again Inv-loop μ-loop
+loop-again c =
+    let loop = c .before .before .before .before .before .loop in
+    rw (c .before .word4 .ensures) (info-turn (loop .inv) (search needs)
+    (rw (c .before .before .before .word2 .ensures, c .before .before .word3 .ensures, c .before .word4 .ensures) at
+    (c .scan-ops .ensures .0)) (c .scan-ops .ensures .1))
+
+returns : tie.Need-returns Inv-loop μ-loop
+returns c = chain-scanned (c .before .loop .inv) (search needs)
+
+pub scan-chain-spec : {M : Type 1} → statement M
+scan-chain-spec =
+    tie.close
+    (tie.spec
+    Inv-loop
+    μ-loop
+    start-requires
+    word-requires
+    cast-m
+    loop-holds
+    word-requires-2
+    add-word
+    word-requires-3
+    add-word-2
+    word-requires-4
+    cast-n
+    add-scan-ops
+    scan-ops-requires
+    add-a
+    mul-a
+    add-a-2
+    sub-m
+    loop-less
+    loop-again
+    returns)
