@@ -19,7 +19,8 @@ use Rattle.entry.specs.declared.Judged.the-variants.{Refuse, Skip, Write}
 use Rattle.x64.specs.declared.Op.{Op}
 use Rattle.x64.specs.declared.Op.the-variants.{PushNonVolatile, Alloc, SaveRsp, SaveFp, SetFpRegister, PushMachineFrame, Other, Undecodable}
 use Rattle.entry.specs.Entry.{word}
-use Rattle.x64.specs.X64.{opOf, stored, infos, inOrder, infoCount, chain, growthOf, valueOf, run, opFits, opsFit, infoFits, infosFit, x64Layout, undecodableOps, undecodableInfos, printed, inReach, setCount, x64Reach, x64Skipped, x64Judged, savedText, framedText, cfaText}
+use Rattle.x64.specs.X64.{opOf, stored, infos, inOrder, infoCount, chain, growthOf, valueOf, run, opFits, opsFit, infoFits}
+use Rattle.x64.specs.X64.{infosFit, x64Layout, undecodableOps, undecodableInfos, printed, inReach, setCount, x64Reach, x64Skipped, x64Judged, savedText, framedText, cfaText}
 
 -- ---- operations
 

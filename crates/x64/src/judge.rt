@@ -328,7 +328,7 @@ pub(crate) fn scan_chain(body: &[u32]) -> Scan
 }
 
 // Refusals 6 and 7, in this order; 0: none.
-pub(crate) fn reach(s: Scan) -> u32
+pub(crate) fn refused_by(s: Scan) -> u32
     ensures { λ r. ⌜ r ≡ scanNumber s ⌝ }
 {
     if s.lost {

@@ -18,7 +18,7 @@ use entry::Judged;
 use entry::Last;
 use entry::Wrote;
 use judge::admit;
-use judge::reach;
+use judge::refused_by;
 use judge::scan_chain;
 use write::put_entry;
 ghost use lib.Dec.{T};
@@ -69,7 +69,7 @@ fn put_admitted(out: &mut [u8], at: usize, body: &[u32], last: Last) -> Wrote
     ensures { λ r. ⌜ Processed (comesTo (chainJudged (now (body .entry))) (x64Text (now (body .entry))) last last) (now (out .entry)) at (now (out .exit)) r ⌝ }
 {
     let s = scan_chain(body);
-    let number = reach(s);
+    let number = refused_by(s);
     if number != 0 {
         return Wrote { number, at, last };
     }

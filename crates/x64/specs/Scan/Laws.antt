@@ -1,17 +1,16 @@
 -- What a first pass says of a chain: its steps, its CFA and machine frames, refusals 6 and 7, and its bounds.
 use mathlib.Core.Path.{_≡_, refl, sym, ap, _∙_}
-use Prim.Native.Nat.{ℕ, _+_, _-_, _^_, _≤_, _<_}
+use Prim.Native.Nat.{ℕ, _+_, _^_, _≤_, _<_}
 use native.Mathlib.Omega.{arith}
 use mathlib.Core.Bool.{Bool, true, false, not, cond, _&&_, _||_, or-true, or-false}
 use mathlib.Core.List.{List, [], _∷_, _++_}
-use lib.IntN.{pos, subℕ}
+use lib.IntN.{subℕ}
 use lib.Dec.{T, ltb, ltb→lt}
 use borrow.Author.Tests.{le-ltb, lt-ltb}
 use Rattle.text.specs.Tests.{is-true, and-l, and-r}
 use Rattle.x64.specs.declared.Op.{Op}
 use Rattle.x64.specs.declared.Op.the-variants.{PushNonVolatile, Alloc, SaveRsp, SaveFp, SetFpRegister, PushMachineFrame, Other, Undecodable}
 use Rattle.x64.specs.declared.Scan.{Scan}
-use Rattle.text.specs.Text.{ascii}
 use Rattle.names.specs.Names.{peName}
 use Rattle.x64.specs.X64.{chain, growthOf, valueOf, run, total, cfaText, setText, cfaOr, isMachine, anyMachine, isSet, setCount, inReach, x64Layout}
 use Rattle.x64.specs.Index.{within, reaches, chain-reach, chainNumber}
@@ -118,7 +117,8 @@ advance-cfa s (PushNonVolatile r) os = refl
 advance-cfa s (Alloc v) os = refl
 advance-cfa s (SaveRsp r v) os = let e : s .total + 0 ≡ s .total = omega arith in rw e
 advance-cfa s (SaveFp r v f o) os = let e : s .total + 0 ≡ s .total = omega arith in rw e
-advance-cfa s (SetFpRegister f o) os = elim (s .set) as (λ t. cfaText (peName (cond t (s .frame) f)) (subℕ (cond t (s .place) (s .total)) (cond t (s .offset) o)) ≡ cond t (cfaText (peName (s .frame)) (subℕ (s .place) (s .offset))) (cfaText (peName f) (subℕ (s .total) o))) [ true ↦ refl | false ↦ refl ]
+advance-cfa s (SetFpRegister f o) os = elim (s .set) as (λ t. cfaText (peName (cond t (s .frame) f)) (subℕ (cond t (s .place) (s .total)) (cond t (s .offset) o)) ≡ cond t
+    (cfaText (peName (s .frame)) (subℕ (s .place) (s .offset))) (cfaText (peName f) (subℕ (s .total) o))) [ true ↦ refl | false ↦ refl ]
 advance-cfa s (PushMachineFrame e) os = refl
 advance-cfa s Other os = let e : s .total + 0 ≡ s .total = omega arith in rw e
 advance-cfa s Undecodable os = let e : s .total + 0 ≡ s .total = omega arith in rw e

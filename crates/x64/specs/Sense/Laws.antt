@@ -23,7 +23,8 @@ use Rattle.entry.specs.Entry.{word}
 use Rattle.entry.specs.Entry.Laws.{Accepted, accepted}
 use Rattle.x64.specs.declared.Op.{Op}
 use Rattle.x64.specs.declared.Op.the-variants.{PushNonVolatile, Alloc, SaveRsp, SaveFp, SetFpRegister, PushMachineFrame, Other, Undecodable}
-use Rattle.x64.specs.X64.{chain, isMachine, anyMachine, x64Layout, x64Skipped, x64Reach, x64Judged, growthOf, run, total, savedText, machineText, opText, setText, cfaOr, raText, rulesRun, x64Text, isSet, setCount, x64Entry}
+use Rattle.x64.specs.X64.{chain, isMachine, anyMachine, x64Layout, x64Skipped, x64Reach, x64Judged, growthOf, run, total}
+use Rattle.x64.specs.X64.{savedText, machineText, opText, setText, cfaOr, raText, rulesRun, x64Text, isSet, setCount, x64Entry}
 use Rattle.x64.specs.Index.{saved-rule, framed-rule, cfa-rule}
 use Rattle.x64.specs.Sense.{opRules, opCfa, cfaForm, raRules, addedBy, sum, each, sums, x64Rules, x64Line, x64Lines, pushes, allocations, machineFrames, errorCodes}
 

@@ -4,8 +4,8 @@ use borrow.Author.Needs.{needs}
 use Rattle.arm64.proofs.BreakpadEncoder.save_pre_indexed.Statement.{statement}
 use Rattle.arm64.proofs.BreakpadEncoder.save_pre_indexed.Tie as tie
 
-add-t8 : tie.Need-add-t8
-add-t8 c = search needs
+add-t7 : tie.Need-add-t7
+add-t7 c = search needs
 
 save-one-requires : tie.Need-save-one-requires
 save-one-requires c κs = search needs
@@ -18,4 +18,4 @@ returns : tie.Need-returns
 returns c = rw (c .before .save-one .ensures) at (c .alloc-stack .ensures)
 
 pub save-pre-indexed-spec : {M : Type 1} → statement M
-save-pre-indexed-spec = tie.close (tie.spec add-t8 save-one-requires alloc-stack-requires returns)
+save-pre-indexed-spec = tie.close (tie.spec add-t7 save-one-requires alloc-stack-requires returns)

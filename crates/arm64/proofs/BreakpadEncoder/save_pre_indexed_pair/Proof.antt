@@ -4,8 +4,8 @@ use borrow.Author.Needs.{needs}
 use Rattle.arm64.proofs.BreakpadEncoder.save_pre_indexed_pair.Statement.{statement}
 use Rattle.arm64.proofs.BreakpadEncoder.save_pre_indexed_pair.Tie as tie
 
-add-t8 : tie.Need-add-t8
-add-t8 c = search needs
+add-t7 : tie.Need-add-t7
+add-t7 c = search needs
 
 save-pair-requires : tie.Need-save-pair-requires
 save-pair-requires c κs = search needs
@@ -19,4 +19,4 @@ returns c = rw (c .before .save-pair .ensures) at (c .alloc-stack .ensures)
 
 pub save-pre-indexed-pair-spec : {M : Type 1} → statement M
 save-pre-indexed-pair-spec =
-    tie.close (tie.spec add-t8 save-pair-requires alloc-stack-requires returns)
+    tie.close (tie.spec add-t7 save-pair-requires alloc-stack-requires returns)
