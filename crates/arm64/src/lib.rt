@@ -14,6 +14,7 @@ use body::first_end;
 use entry::Judged;
 use entry::Last;
 use entry::Wrote;
+use entry::refusal;
 use judge::judge;
 use write::put_lines;
 ghost use Rattle.entry.specs.Entry.{Processed};
@@ -67,14 +68,14 @@ pub fn process_pe_arm64(out: &mut [u8], at: usize, body: &[u32], last: Last) -> 
     match judged {
         Judged::Refuse(number) => Wrote { number, at, last },
         Judged::Skip => Wrote {
-            number: 0,
+            number: refusal::NONE,
             at,
             last,
         },
         Judged::Write => {
             let p = put_lines(out, at, body, first_end(body));
             Wrote {
-                number: 0,
+                number: refusal::NONE,
                 at: p,
                 last,
             }

@@ -4,7 +4,6 @@ use libc::STDOUT_FILENO;
 use records::Compared;
 ghost use mathlib.Core.Path.{_≡_};
 ghost use lib.ListN.{length};
-ghost use Rattle.io.specs.Counts.{Counts};
 
 const LIMIT: u32 = 32;
 
@@ -73,14 +72,6 @@ fn say(a: &[u32], b: &[u32]) {
     }
 }
 
-fn read_book(fd: i32, book: &mut [u32]) -> usize
-    ensures { λ r. ⌜ Counts r (now (book .exit)) ⌝ }
-{
-    let mut bytes = [0u8; 65537];
-    let n = io::read_full(fd, &mut bytes);
-    input::words(&bytes[..n], book)
-}
-
 fn main() {
     if os::arg_count() != 3 {
         io::write_all(STDERR_FILENO, b"compare FILE FILE\n");
@@ -96,7 +87,7 @@ fn main() {
     }
     let mut a = [0u32; 16384];
     let mut b = [0u32; 16384];
-    let n = read_book(first, &mut a);
-    let m = read_book(second, &mut b);
+    let n = input::read_book(first, &mut a);
+    let m = input::read_book(second, &mut b);
     say(&a[..n], &b[..m]);
 }

@@ -80,8 +80,8 @@ pub fn either(a: bool, b: bool) -> bool
 pub fn saturating_sub(a: u64, b: u64) -> u64
     ensures { λ r. ⌜ r ≡ a - b ⌝ }
 {
-    if b <= a {
-        return a - b;
+    if a < b {
+        return 0;
     }
-    0
+    a - b
 }

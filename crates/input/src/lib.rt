@@ -55,3 +55,12 @@ pub fn words(bytes: &[u8], out: &mut [u32]) -> usize
     }
     n
 }
+
+// The words of a book that is read from an open file; one byte more than a book has is read, so that a longer file is none.
+pub fn read_book(fd: i32, book: &mut [u32]) -> usize
+    ensures { λ r. ⌜ Counts r (now (book .exit)) ⌝ }
+{
+    let mut bytes = [0u8; 65537];
+    let n = io::read_full(fd, &mut bytes);
+    words(&bytes[..n], book)
+}

@@ -2,7 +2,6 @@
 // then "refused N" if it is refused. Input that is no book, as `input` says, counts as refused 3.
 use libc::STDIN_FILENO;
 use libc::STDOUT_FILENO;
-ghost use Rattle.io.specs.Counts.{Counts};
 
 const LIMIT: u32 = 32;
 
@@ -23,16 +22,8 @@ fn answer(book: &[u32]) {
     }
 }
 
-fn read_book(fd: i32, book: &mut [u32]) -> usize
-    ensures { λ r. ⌜ Counts r (now (book .exit)) ⌝ }
-{
-    let mut bytes = [0u8; 65537];
-    let n = io::read_full(fd, &mut bytes);
-    input::words(&bytes[..n], book)
-}
-
 fn main() {
     let mut book = [0u32; 16384];
-    let n = read_book(STDIN_FILENO, &mut book);
+    let n = input::read_book(STDIN_FILENO, &mut book);
     answer(&book[..n]);
 }

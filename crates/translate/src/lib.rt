@@ -6,6 +6,7 @@ use book::size_of;
 use book::start_of;
 use entry::Last;
 use entry::Wrote;
+use entry::refusal;
 use text::put_bytes;
 ghost use mathlib.Core.Path.{_≡_};
 ghost use mathlib.Core.Bool.{true};
@@ -76,7 +77,7 @@ fn step(
     let number = e.number;
     let size = e.at;
     let next = e.last;
-    if number != 0 {
+    if number != refusal::NONE {
         return Next {
             number,
             used,
@@ -85,21 +86,21 @@ fn step(
     }
     if LONGEST < size {
         return Next {
-            number: 8,
+            number: refusal::LONG,
             used,
             last: next,
         };
     }
     if text.len() - used < size {
         return Next {
-            number: 9,
+            number: refusal::ROOM,
             used,
             last: next,
         };
     }
     let p = copy(work, size, text, used);
     Next {
-        number: 0,
+        number: refusal::NONE,
         used: p,
         last: next,
     }
@@ -120,7 +121,7 @@ fn entries(book: &[u32], limit: u32, work: &mut [u8], text: &mut [u8]) -> Return
         let e = a + size_of(book, i);
         let s = step(kind, limit, last, &book[a..e], work, text, used);
         let number = s.number;
-        if number != 0 {
+        if number != refusal::NONE {
             return Returned {
                 number,
                 entries: i,
@@ -132,7 +133,7 @@ fn entries(book: &[u32], limit: u32, work: &mut [u8], text: &mut [u8]) -> Return
         i += 1;
     }
     Returned {
-        number: 0,
+        number: refusal::NONE,
         entries: n,
         length: used,
     }
@@ -165,14 +166,14 @@ pub fn translate(book: &[u32], limit: u32, work: &mut [u8], text: &mut [u8]) -> 
 {
     if work.len() < AREA {
         return Returned {
-            number: 1,
+            number: refusal::WORK,
             entries: 0,
             length: 0,
         };
     }
     if MOST_LIMIT < limit {
         return Returned {
-            number: 2,
+            number: refusal::LIMIT,
             entries: 0,
             length: 0,
         };
@@ -181,7 +182,7 @@ pub fn translate(book: &[u32], limit: u32, work: &mut [u8], text: &mut [u8]) -> 
         return run(book, limit, &mut work[..AREA], text);
     }
     Returned {
-        number: 3,
+        number: refusal::CONTENTS,
         entries: 0,
         length: 0,
     }

@@ -79,32 +79,56 @@ module _ {A : Type 0} where
 unfoldable pub pushes : List Op → ℕ
 pushes [] = 0
 pushes (o ∷ os) = elim o [
-  | PushNonVolatile r ↦ 1 | Alloc v ↦ 0 | SaveRsp r v ↦ 0 | SaveFp r v f o ↦ 0
-  | SetFpRegister f o ↦ 0 | PushMachineFrame e ↦ 0 | Other ↦ 0 | Undecodable ↦ 0
+  | PushNonVolatile r ↦ 1
+  | Alloc v ↦ 0
+  | SaveRsp r v ↦ 0
+  | SaveFp r v f o ↦ 0
+  | SetFpRegister f o ↦ 0
+  | PushMachineFrame e ↦ 0
+  | Other ↦ 0
+  | Undecodable ↦ 0
 ] + pushes os
 
 -- what the allocations come to
 unfoldable pub allocations : List Op → ℕ
 allocations [] = 0
 allocations (o ∷ os) = elim o [
-  | PushNonVolatile r ↦ 0 | Alloc v ↦ v | SaveRsp r v ↦ 0 | SaveFp r v f o ↦ 0
-  | SetFpRegister f o ↦ 0 | PushMachineFrame e ↦ 0 | Other ↦ 0 | Undecodable ↦ 0
+  | PushNonVolatile r ↦ 0
+  | Alloc v ↦ v
+  | SaveRsp r v ↦ 0
+  | SaveFp r v f o ↦ 0
+  | SetFpRegister f o ↦ 0
+  | PushMachineFrame e ↦ 0
+  | Other ↦ 0
+  | Undecodable ↦ 0
 ] + allocations os
 
 -- how many machine frames
 unfoldable pub machineFrames : List Op → ℕ
 machineFrames [] = 0
 machineFrames (o ∷ os) = elim o [
-  | PushNonVolatile r ↦ 0 | Alloc v ↦ 0 | SaveRsp r v ↦ 0 | SaveFp r v f o ↦ 0
-  | SetFpRegister f o ↦ 0 | PushMachineFrame e ↦ 1 | Other ↦ 0 | Undecodable ↦ 0
+  | PushNonVolatile r ↦ 0
+  | Alloc v ↦ 0
+  | SaveRsp r v ↦ 0
+  | SaveFp r v f o ↦ 0
+  | SetFpRegister f o ↦ 0
+  | PushMachineFrame e ↦ 1
+  | Other ↦ 0
+  | Undecodable ↦ 0
 ] + machineFrames os
 
 -- how many of them with an error code
 unfoldable pub errorCodes : List Op → ℕ
 errorCodes [] = 0
 errorCodes (o ∷ os) = elim o [
-  | PushNonVolatile r ↦ 0 | Alloc v ↦ 0 | SaveRsp r v ↦ 0 | SaveFp r v f o ↦ 0
-  | SetFpRegister f o ↦ 0 | PushMachineFrame e ↦ cond e 1 0 | Other ↦ 0 | Undecodable ↦ 0
+  | PushNonVolatile r ↦ 0
+  | Alloc v ↦ 0
+  | SaveRsp r v ↦ 0
+  | SaveFp r v f o ↦ 0
+  | SetFpRegister f o ↦ 0
+  | PushMachineFrame e ↦ cond e 1 0
+  | Other ↦ 0
+  | Undecodable ↦ 0
 ] + errorCodes os
 
 -- ---- the line

@@ -337,5 +337,5 @@ pub(crate) fn refused_by(s: Scan) -> u32
     if s.twice {
         return refusal::FRAME;
     }
-    0
+    refusal::NONE
 }

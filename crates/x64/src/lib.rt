@@ -17,6 +17,7 @@ mod write;
 use entry::Judged;
 use entry::Last;
 use entry::Wrote;
+use entry::refusal;
 use judge::admit;
 use judge::refused_by;
 use judge::scan_chain;
@@ -70,12 +71,12 @@ fn put_admitted(out: &mut [u8], at: usize, body: &[u32], last: Last) -> Wrote
 {
     let s = scan_chain(body);
     let number = refused_by(s);
-    if number != 0 {
+    if number != refusal::NONE {
         return Wrote { number, at, last };
     }
     let p = put_entry(out, at, body, s);
     Wrote {
-        number: 0,
+        number: refusal::NONE,
         at: p,
         last,
     }
@@ -89,7 +90,7 @@ pub fn process_pe(out: &mut [u8], at: usize, body: &[u32], limit: u32, last: Las
     match judged {
         Judged::Refuse(number) => Wrote { number, at, last },
         Judged::Skip => Wrote {
-            number: 0,
+            number: refusal::NONE,
             at,
             last,
         },

@@ -42,10 +42,17 @@ returns-9 c = rw (c .match .keys9)
 
 returns-10 : tie.Need-returns-10
 unfolding opOf
-returns-10 c = simp (ne-eqb (c .before .args .kind) 1 (c .match .rest .0 .0 .0 .0 .0 .0 .0 .0 .1), ne-eqb (c .before .args .kind) 2 (c .match .rest .0 .0 .0 .0 .0 .0 .0 .1),
-    ne-eqb (c .before .args .kind) 3 (c .match .rest .0 .0 .0 .0 .0 .0 .1), ne-eqb (c .before .args .kind) 4 (c .match .rest .0 .0 .0 .0 .0 .1),
-    ne-eqb (c .before .args .kind) 5 (c .match .rest .0 .0 .0 .0 .1), ne-eqb (c .before .args .kind) 6 (c .match .rest .0 .0 .0 .1),
-    ne-eqb (c .before .args .kind) 7 (c .match .rest .0 .0 .1), ne-eqb (c .before .args .kind) 9 (c .match .rest .0 .1), ne-eqb (c .before .args .kind) 10 (c .match .rest .1))
+returns-10 c = simp (
+  ne-eqb (c .before .args .kind) 1 (c .match .rest .0 .0 .0 .0 .0 .0 .0 .0 .1),
+  ne-eqb (c .before .args .kind) 2 (c .match .rest .0 .0 .0 .0 .0 .0 .0 .1),
+  ne-eqb (c .before .args .kind) 3 (c .match .rest .0 .0 .0 .0 .0 .0 .1),
+  ne-eqb (c .before .args .kind) 4 (c .match .rest .0 .0 .0 .0 .0 .1),
+  ne-eqb (c .before .args .kind) 5 (c .match .rest .0 .0 .0 .0 .1),
+  ne-eqb (c .before .args .kind) 6 (c .match .rest .0 .0 .0 .1),
+  ne-eqb (c .before .args .kind) 7 (c .match .rest .0 .0 .1),
+  ne-eqb (c .before .args .kind) 9 (c .match .rest .0 .1),
+  ne-eqb (c .before .args .kind) 10 (c .match .rest .1),
+)
 
 pub op-of-spec : {M : Type 1} → statement M
 op-of-spec =

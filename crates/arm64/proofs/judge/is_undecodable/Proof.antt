@@ -37,8 +37,10 @@ returns-2 c =
     let before-4 = c .before .before .before .before in
     let before-7 = before-4 .before .before .before in
     sym (sym (before-4 .loop .inv .1) ∙ undecodable-step (before-7 .args .body .now) (before-4 .loop .a) (before-4 .loop .k) (search needs)
-    ∙ rw (ne-eqb (word (before-7 .args .body .now) (before-4 .loop .a)) 9 (λ q. c .before .if1 .left (c .before .before .word2 .ensures ∙ q)),
-    eq-eqb (word (before-7 .args .body .now) (before-4 .loop .a)) 10 (sym (c .before .before .word2 .ensures) ∙ c .if2 .taken)))
+    ∙ rw (
+      ne-eqb (word (before-7 .args .body .now) (before-4 .loop .a)) 9 (λ q. c .before .if1 .left (c .before .before .word2 .ensures ∙ q)),
+      eq-eqb (word (before-7 .args .body .now) (before-4 .loop .a)) 10 (sym (c .before .before .word2 .ensures) ∙ c .if2 .taken),
+    ))
 
 add-a : tie.Need-add-a Inv-loop μ-loop
 add-a c = search needs
@@ -52,10 +54,14 @@ loop-less c = search needs
 loop-again : tie.Need-loop-again Inv-loop μ-loop
 loop-again c =
     let before-4 = c .before .before .before .before in
-    let before-7 = before-4 .before .before .before in
-    (omega arith, sym (sym (before-4 .loop .inv .1) ∙ undecodable-step (before-7 .args .body .now) (before-4 .loop .a) (before-4 .loop .k) (search needs)
-    ∙ rw (ne-eqb (word (before-7 .args .body .now) (before-4 .loop .a)) 9 (λ q. c .before .if1 .left (c .before .before .word2 .ensures ∙ q)),
-    ne-eqb (word (before-7 .args .body .now) (before-4 .loop .a)) 10 (λ q. c .if2 .left (c .before .before .word2 .ensures ∙ q)))))
+    let before-7 = before-4 .before .before .before in (
+      omega arith,
+      sym (sym (before-4 .loop .inv .1) ∙ undecodable-step (before-7 .args .body .now) (before-4 .loop .a) (before-4 .loop .k) (search needs)
+          ∙ rw (
+            ne-eqb (word (before-7 .args .body .now) (before-4 .loop .a)) 9 (λ q. c .before .if1 .left (c .before .before .word2 .ensures ∙ q)),
+            ne-eqb (word (before-7 .args .body .now) (before-4 .loop .a)) 10 (λ q. c .if2 .left (c .before .before .word2 .ensures ∙ q)),
+          )),
+    )
 
 returns-3 : tie.Need-returns-3 Inv-loop μ-loop
 unfolding undecodable

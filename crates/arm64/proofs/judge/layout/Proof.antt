@@ -61,10 +61,12 @@ loop-again : tie.Need-loop-again Inv-loop μ-loop
 loop-again c =
     let before-3 = c .before .before .before in
     let before-5 = before-3 .before .before in
-    let before-9 = before-5 .before .before .before .before in
-    (omega arith, and-yes (opFits (word (before-9 .args .body .now) (before-5 .loop .a)) (word (before-9 .args .body .now) (before-5 .loop .a + 2))) _
-    (rw (before-3 .word2 .ensures, c .before .before .word3 .ensures) at (sym (c .before .op-fits .ensures) ∙ not-false (c .before .op-fits .result) (c .if2 .left)))
-    ∙ sym (ops-fit-step (before-9 .args .body .now) (before-5 .loop .a) (before-5 .loop .k) (search needs)) ∙ before-5 .loop .inv .1)
+    let before-9 = before-5 .before .before .before .before in (
+      omega arith,
+      and-yes (opFits (word (before-9 .args .body .now) (before-5 .loop .a)) (word (before-9 .args .body .now) (before-5 .loop .a + 2))) _
+          (rw (before-3 .word2 .ensures, c .before .before .word3 .ensures) at (sym (c .before .op-fits .ensures) ∙ not-false (c .before .op-fits .result) (c .if2 .left)))
+          ∙ sym (ops-fit-step (before-9 .args .body .now) (before-5 .loop .a) (before-5 .loop .k) (search needs)) ∙ before-5 .loop .inv .1,
+    )
 
 returns-3 : tie.Need-returns-3 Inv-loop μ-loop
 unfolding opsFit
