@@ -1,6 +1,6 @@
 //! Holds the documents to the sources: every name in the tables of ARCHITECTURE.md and PROOFS.md stands in the code, the definitions or the proofs,
 //! every law in the file beside it, and every file that they name is there; every public function has a row, every must-fail edit and planted fault
-//! is named, and none that is not there; what has to be believed is listed (reach.rs), and what a sense shares with the text; every link leads to a file.
+//! is named, and none that is not there; what has to be believed is listed (reach.rs), and what a sense shares with the text; no line of a proof is too long; every link leads to a file.
 //!
 //! Run from the repository's root. The last line is 'N passed, M failed'.
 
@@ -11,6 +11,9 @@ use std::collections::{BTreeMap, BTreeSet};
 use std::fs;
 use std::path::{Path, PathBuf};
 use tally::Tally;
+
+/// Characters of a line of a proof, at most.
+const LONGEST_LINE: usize = 200;
 
 fn read(path: impl AsRef<Path>) -> String {
     let path = path.as_ref();
@@ -142,6 +145,13 @@ fn public(library: &str, source: &str) -> Vec<(String, String)> {
     found
 }
 
+/// Those of all modules of a library; a program has none.
+fn public_of(library: &str) -> Vec<(String, String)> {
+    let folder = Path::new("crates").join(library).join("src");
+    let modules = if folder.join("lib.rt").exists() { files(&folder, ".rt") } else { Vec::new() };
+    modules.iter().flat_map(|path| public(library, &read(path))).collect()
+}
+
 /// Every public function has a row, and every row a must-fail edit that is there; every edit is named.
 fn contracts(t: &mut Tally, proofs: &str, crates: &BTreeMap<String, BTreeSet<String>>) {
     let mut rows = BTreeSet::new();
@@ -164,8 +174,7 @@ fn contracts(t: &mut Tally, proofs: &str, crates: &BTreeMap<String, BTreeSet<Str
         }
     }
     for (library, edits) in crates {
-        let path = format!("crates/{library}/src/lib.rt");
-        for (function, _) in fs::read_to_string(path).map(|s| public(library, &s)).unwrap_or_default() {
+        for (function, _) in public_of(library) {
             t.check(rows.contains(&function), &format!("PROOFS.md: `{function}` has no row"));
         }
         for edit in edits {
@@ -218,6 +227,14 @@ fn shared(t: &mut Tally, proofs: &str) {
     }
 }
 
+/// No line of a proof is longer than can be read.
+fn lengths(t: &mut Tally) {
+    for path in files(Path::new("crates"), ".antt").iter().filter(|p| p.components().any(|c| c.as_os_str() == "proofs")) {
+        let longest = read(path).lines().map(|l| l.chars().count()).max().unwrap_or(0);
+        t.check(longest <= LONGEST_LINE, &format!("{}: a line of {longest} characters", path.display()));
+    }
+}
+
 /// Every link to a file of the repository leads to one.
 fn links(t: &mut Tally, path: &Path, page: &str) {
     for target in page.split("](").skip(1).map(|s| s.split(')').next().unwrap_or("")) {
@@ -255,6 +272,7 @@ fn main() {
     reach::believed(&mut t, &proofs);
     contracts(&mut t, &proofs, &crates);
     shared(&mut t, &proofs);
+    lengths(&mut t);
     faults(&mut t, &read("docs/FAULTS.md"));
     for path in files(Path::new("docs"), ".md").iter().chain(&[PathBuf::from("README.md")]) {
         links(&mut t, path, &read(path));

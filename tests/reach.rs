@@ -250,7 +250,8 @@ impl Reach {
 /// The public functions, each with what its contract uses.
 fn contracts() -> Vec<(String, BTreeSet<Place>)> {
     let mut found = Vec::new();
-    for path in files(Path::new("crates"), "src/lib.rt") {
+    let modules = files(Path::new("crates"), ".rt").into_iter().filter(|p| p.with_file_name("lib.rt").exists());
+    for path in modules {
         let library = stem(path.ancestors().nth(2).expect("a library"));
         let text = read(&path);
         let mut source = Source::default();

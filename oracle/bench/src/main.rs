@@ -1,6 +1,7 @@
-//! The port beside the unchanged Rust on realistic books: `bench` prints the tables of docs/BENCHMARKS.md,
-//! `bench port KIND TIMES` and `bench rust KIND TIMES` run one side alone, for a profiler;
-//! `bench size KIND` prints the words and the bytes of text of the books that they run, `bench text KIND` the text.
+//! The port beside the unchanged Rust: `bench` prints the tables of docs/BENCHMARKS.md for realistic books, `bench real FILE..` that of real ones;
+//! `bench port BOOKS TIMES` and `bench rust BOOKS TIMES` run one side alone, for a profiler;
+//! `bench size BOOKS` prints the words and the bytes of text of the books that they run, `bench text BOOKS` the text.
+//! BOOKS is a kind, for its full realistic books, or a file of books: for each its limit (32), its number of words and the words, little-endian.
 
 mod clock;
 mod realistic;
@@ -24,11 +25,34 @@ fn main() {
     let words: Vec<String> = std::env::args().collect();
     match &words[1..] {
         [] => tables(),
-        [size, kind] if size == "size" => print_size(kind.parse().expect("KIND")),
-        [text, kind] if text == "text" => print_text(kind.parse().expect("KIND")),
-        [side, kind, times] => alone(side, kind.parse().expect("KIND"), times.parse().expect("TIMES")),
-        _ => panic!("bench, or bench port|rust KIND TIMES, or bench size|text KIND"),
+        [real, files @ ..] if real == "real" => real_books(files),
+        [size, books] if size == "size" => print_size(&books_of(books)),
+        [text, books] if text == "text" => print_text(&books_of(books)),
+        [side, books, times] => alone(side, &books_of(books), times.parse().expect("TIMES")),
+        _ => panic!("bench, or bench real FILE.., or bench port|rust BOOKS TIMES, or bench size|text BOOKS"),
     }
+}
+
+/// The full books of a kind, or those of a file.
+fn books_of(word: &str) -> Vec<Vec<u32>> {
+    match word.parse() {
+        Ok(kind) => (0..BOOKS).map(|turn| realistic::book(kind, turn)).collect(),
+        Err(_) => read_books(word),
+    }
+}
+
+fn read_books(path: &str) -> Vec<Vec<u32>> {
+    let bytes = std::fs::read(path).unwrap_or_else(|e| panic!("{path}: {e}"));
+    let words: Vec<u32> = bytes.chunks_exact(4).map(|b| u32::from_le_bytes([b[0], b[1], b[2], b[3]])).collect();
+    let mut books = Vec::new();
+    let mut rest = &words[..];
+    while let [limit, count, more @ ..] = rest {
+        assert_eq!(*limit, 32, "{path}: a limit of {limit}");
+        let (book, behind) = more.split_at(*count as usize);
+        books.push(book.to_vec());
+        rest = behind;
+    }
+    books
 }
 
 fn name(kind: u32) -> &'static str {
@@ -53,24 +77,51 @@ fn tables() {
     stack_taken(&mut port);
 }
 
+/// Both sides on the books of files, and one row for each file.
+fn real_books(files: &[String]) {
+    let (mut port, mut text) = (Port::new(), text_room());
+    let mut each: Vec<(String, Vec<Both>)> = Vec::new();
+    for file in files {
+        let name = std::path::Path::new(file).file_stem().expect("a file").to_string_lossy().into_owned();
+        each.push((name, read_books(file).into_iter().map(|book| Both::new(book, &mut port, &mut text)).collect()));
+    }
+    for _ in 0..ROUNDS {
+        for (_, books) in &mut each {
+            books.iter_mut().for_each(|book| book.time(1, &mut port, &mut text));
+        }
+    }
+    println!("Books of real files, the least of {ROUNDS} times; the last column is the Rust's time over the port's:\n");
+    print_head("books");
+    for (name, books) in &each {
+        print_row(name, books);
+    }
+}
+
 fn full_books(kinds: &[Vec<Both>]) {
     println!("{BOOKS} full books of each kind, the least of {ROUNDS} times; the last column is the Rust's time over the port's:\n");
-    println!("| kind | entries | words | bytes of text | port, ns/word | Rust, ns/word | port, ns/byte | Rust, ns/byte | times faster |");
-    println!("|---|--:|--:|--:|--:|--:|--:|--:|--:|");
+    print_head("kind");
     for books in kinds {
-        let sum = |of: fn(&Both) -> f64| books.iter().map(of).sum::<f64>();
-        let (entries, words, bytes) = (sum(|b| b.entries() as f64), sum(|b| b.book.len() as f64), sum(|b| b.bytes as f64));
-        let (port, rust) = (sum(|b| b.port), sum(|b| b.rust));
-        println!(
-            "| {} | {entries} | {words} | {bytes} | {:.2} | {:.2} | {:.2} | {:.2} | {:.2} |",
-            name(books[0].book[0]),
-            port / words,
-            rust / words,
-            port / bytes,
-            rust / bytes,
-            rust / port
-        );
+        print_row(name(books[0].book[0]), books);
     }
+}
+
+fn print_head(first: &str) {
+    println!("| {first} | entries | words | bytes of text | port, ns/word | Rust, ns/word | port, ns/byte | Rust, ns/byte | times faster |");
+    println!("|---|--:|--:|--:|--:|--:|--:|--:|--:|");
+}
+
+fn print_row(name: &str, books: &[Both]) {
+    let sum = |of: fn(&Both) -> f64| books.iter().map(of).sum::<f64>();
+    let (entries, words, bytes) = (sum(|b| b.entries() as f64), sum(|b| b.book.len() as f64), sum(|b| b.bytes as f64));
+    let (port, rust) = (sum(|b| b.port), sum(|b| b.rust));
+    println!(
+        "| {name} | {entries} | {words} | {bytes} | {:.2} | {:.2} | {:.2} | {:.2} | {:.2} |",
+        port / words,
+        rust / words,
+        port / bytes,
+        rust / bytes,
+        rust / port
+    );
 }
 
 fn growth(port: &mut Port, text: &mut Vec<u8>) {
@@ -119,30 +170,33 @@ fn stack_taken(port: &mut Port) {
     println!("| {} |", depths.join(" | "));
 }
 
-fn print_size(kind: u32) {
-    let (mut port, mut text) = (Port::new(), text_room());
-    let books: Vec<Both> = (0..BOOKS).map(|turn| Both::new(realistic::book(kind, turn), &mut port, &mut text)).collect();
-    let (words, bytes) = books.iter().fold((0, 0), |(w, b), both| (w + both.book.len(), b + both.bytes));
+fn print_size(books: &[Vec<u32>]) {
+    let mut text = text_room();
+    let (mut words, mut bytes) = (0, 0);
+    for book in books {
+        prepare(book).translate(&mut text);
+        words += book.len();
+        bytes += text.len();
+    }
     println!("{words} {bytes}");
 }
 
-fn print_text(kind: u32) {
+fn print_text(books: &[Vec<u32>]) {
     let mut text = text_room();
-    for turn in 0..BOOKS {
-        prepare(&realistic::book(kind, turn)).translate(&mut text);
+    for book in books {
+        prepare(book).translate(&mut text);
         print!("{}", String::from_utf8_lossy(&text));
     }
 }
 
-/// One side `times` over the full books of a kind, and nothing else of it.
-fn alone(side: &str, kind: u32, times: usize) {
-    let books: Vec<Vec<u32>> = (0..BOOKS).map(|turn| realistic::book(kind, turn)).collect();
+/// One side `times` over the books, and nothing else of it.
+fn alone(side: &str, books: &[Vec<u32>], times: usize) {
     let (mut port, mut text) = (Port::new(), text_room());
     match side {
-        "port" => books.iter().cycle().take(times * BOOKS).for_each(|book| assert_eq!(port.translate(book), 0)),
+        "port" => books.iter().cycle().take(times * books.len()).for_each(|book| assert_eq!(port.translate(book), 0)),
         "rust" => {
             let objects: Vec<Prepared> = books.iter().map(|book| prepare(book)).collect();
-            objects.iter().cycle().take(times * BOOKS).for_each(|object| object.translate(&mut text));
+            objects.iter().cycle().take(times * books.len()).for_each(|object| object.translate(&mut text));
         }
         _ => panic!("port or rust"),
     }
