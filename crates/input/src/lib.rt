@@ -4,7 +4,7 @@ ghost use mathlib.Core.List.{_++_};
 ghost use Prim.Native.Nat.{_*_, _≤_, _<_};
 ghost use lib.ListN.{length, drop};
 ghost use Rattle.io.specs.Counts.{Counts};
-ghost use Rattle.input.specs.Words.{wordOf, wordsOf, wordCount};
+ghost use Rattle.input.specs.Words.{wordOf, wordsOf, wordCount, Read};
 
 const MOST_BYTES: usize = 65536;
 
@@ -41,6 +41,7 @@ pub fn words(bytes: &[u8], out: &mut [u32]) -> usize
     ensures { λ r. ⌜ Counts r (now (out .exit)) ⌝ }
     ensures { λ r. ⌜ r ≡ wordCount (length (now (bytes .entry))) (length (now (out .entry))) ⌝ }
     ensures { λ r. ⌜ now (out .exit) ≡ wordsOf (now (bytes .entry)) r ++ drop r (now (out .entry)) ⌝ }
+    ensures { λ r. ⌜ Read (now (out .entry)) (now (out .exit)) r ⌝ }
 {
     let n = word_count(bytes.len(), out.len());
     let mut i = 0;
@@ -59,6 +60,7 @@ pub fn words(bytes: &[u8], out: &mut [u32]) -> usize
 // The words of a book that is read from an open file; one byte more than a book has is read, so that a longer file is none.
 pub fn read_book(fd: i32, book: &mut [u32]) -> usize
     ensures { λ r. ⌜ Counts r (now (book .exit)) ⌝ }
+    ensures { λ r. ⌜ Read (now (book .entry)) (now (book .exit)) r ⌝ }
 {
     let mut bytes = [0u8; 65537];
     let n = io::read_full(fd, &mut bytes);
