@@ -13,10 +13,9 @@ use Rattle.names.specs.Names.{table, cfiName, i386, x86-64, arm, arm64, ppc, mi
 use Rattle.lines.specs.Lines.{Bytes, ruleText}
 use Rattle.lines.specs.Rules.{ruleOf}
 use Rattle.dwarf.specs.declared.CfaRule.{CfaRule}
-use Rattle.dwarf.specs.declared.RowState.{RowState}
 use Rattle.dwarf.specs.declared.Formatted.{Formatted}
-use Rattle.dwarf.specs.Dwarf.{any, namedBytes, cfaDiffers, lastCfa, noCfa}
-use Rattle.dwarf.specs.Cache.{cfaOf, formatted}
+use Rattle.dwarf.specs.Dwarf.{any, namedBytes, cfaDiffers, lastCfa}
+use Rattle.dwarf.specs.Cache.{cfaIf, formatted}
 
 pub any-length : (n : List ℕ) → not (eqb (length n) 0) ≡ any n
 unfolding any
@@ -69,11 +68,11 @@ some-any f t e = go (f .some) ∙ ap any e
 
 -- ---- the CFA last seen
 
-pub cfa-none : (s : RowState) (x : CfaRule) → s .«cfa_seen» ≡ false → true ≡ cfaDiffers (cfaOf s) x
-cfa-none s x e = sym (ap (λ (t : Bool). cfaDiffers (cond t (lastCfa (s .cfa)) noCfa) x) e)
+pub cfa-none : (s : Bool) (y x : CfaRule) → s ≡ false → true ≡ cfaDiffers (cfaIf s y) x
+cfa-none s y x e = sym (ap (λ (t : Bool). cfaDiffers (cfaIf t y) x) e)
 
-pub cfa-some : (s : RowState) (x : CfaRule) (t : Bool) → s .«cfa_seen» ≡ true → t ≡ cfaDiffers (lastCfa (s .cfa)) x → t ≡ cfaDiffers (cfaOf s) x
-cfa-some s x t e k = k ∙ sym (ap (λ (t : Bool). cfaDiffers (cond t (lastCfa (s .cfa)) noCfa) x) e)
+pub cfa-some : (s : Bool) (y x : CfaRule) (t : Bool) → s ≡ true → t ≡ cfaDiffers (lastCfa y) x → t ≡ cfaDiffers (cfaIf s y) x
+cfa-some s y x t e k = k ∙ sym (ap (λ (t : Bool). cfaDiffers (cfaIf t y) x) e)
 
 -- ---- puts, where a test holds, and where it does not
 

@@ -8,6 +8,7 @@ use lib.Dec.{eqb, ltb}
 use Rattle.lines.specs.Lines.{formText, ruleText}
 use Rattle.lines.specs.Rules.{formOf, ruleOf}
 use Rattle.dwarf.specs.declared.RegisterRule.{RegisterRule}
+use Rattle.dwarf.specs.declared.CfaRule.{CfaRule}
 use Rattle.dwarf.specs.declared.RuleCache.{RuleCache}
 use Rattle.dwarf.specs.declared.RowState.{RowState}
 use Rattle.dwarf.specs.declared.RowScan.{RowScan}
@@ -33,9 +34,12 @@ behind n p = cond (eqb p n) (n + 1) n
 unfoldable pub lookup : RuleCache → ℕ → Seen
 lookup c q = cond (ltb (placeOf c q) (c .count)) (seen (getD (c .kind) (placeOf c q) 0) (getD (c .value) (placeOf c q) 0)) never
 
--- the CFA last seen
+-- the CFA last seen, if any
+abbrev pub cfaIf : Bool → CfaRule → CfaSeen
+cfaIf t x = cond t (lastCfa x) noCfa
+
 abbrev pub cfaOf : RowState → CfaSeen
-cfaOf s = cond (s .«cfa_seen») (lastCfa (s .cfa)) noCfa
+cfaOf s = cfaIf (s .«cfa_seen») (s .cfa)
 
 -- a register that was never seen takes one place more
 abbrev pub newly : Seen → ℕ

@@ -42,8 +42,8 @@ ghost use lib.Dec.{T, eqb, leb, ltb};
 ghost use Rattle.text.specs.Text.{Put};
 ghost use Rattle.names.specs.Names.{cfiName};
 ghost use Rattle.entry.specs.Entry.{Processed};
-ghost use Rattle.dwarf.specs.Dwarf.{wide, twos, usedValue, ruleAt, rulesFrom, cfaAt, rows, firstStart, lastEnd, fdeOf, registers, member, once, ruleFits, rulesFit, rowFits, rowsFit, headFits, dwarfLayout, dwarfSkipped, anyBelow, dwarfReach, dwarfJudged, any, formBytes, ruleBytes, cfaBytes, raBytes, defaultBytes, startBytes, lineBytes, ranRow, cfaDiffers, ranRules, dwarfText, dwarfEntry, noCfa, nothingSeen, ranRows, ranOf, rulesOf, rowAt, distinct};
-ghost use Rattle.dwarf.specs.Cache.{firstIn, lookup, behind, cfaOf, fresh, Forms, formatted, Scanned, After, Known};
+ghost use Rattle.dwarf.specs.Dwarf.{wide, twos, usedValue, ruleAt, rulesFrom, cfaAt, rows, firstStart, lastEnd, fdeOf, registers, member, once, ruleFits, rulesFit, rowFits, rowsFit, headFits, dwarfLayout, dwarfSkipped, anyBelow, dwarfReach, dwarfJudged, any, formBytes, ruleBytes, cfaBytes, raBytes, defaultBytes, startBytes, lineBytes, ranRow, cfaDiffers, ranRules, dwarfText, dwarfEntry, noCfa, nothingSeen, ranRows, ranParts, rulesOf, rowAt, distinct};
+ghost use Rattle.dwarf.specs.Cache.{firstIn, lookup, behind, cfaIf, cfaOf, fresh, Forms, formatted, Scanned, After, Known};
 
 // The registers that rules may name in a body.
 const MOST_REGISTERS: usize = 64;
@@ -235,22 +235,20 @@ pub struct RowState {
     pub rules: RuleCache,
 }
 
-impl RowState {
-    fn cfa_differs(self, cfa: CfaRule) -> bool
-        ensures { λ r. ⌜ r ≡ cfaDiffers (cfaOf self) cfa ⌝ }
-    {
-        if !self.cfa_seen {
-            return true;
-        }
-        let last = self.cfa;
-        if last.kind != cfa.kind {
-            return true;
-        }
-        if last.register != cfa.register {
-            return true;
-        }
-        last.offset != cfa.offset
+// Whether a CFA differs from the one last seen, if any.
+fn cfa_differs(seen: bool, last: CfaRule, cfa: CfaRule) -> bool
+    ensures { λ r. ⌜ r ≡ cfaDiffers (cfaIf seen last) cfa ⌝ }
+{
+    if !seen {
+        return true;
     }
+    if last.kind != cfa.kind {
+        return true;
+    }
+    if last.register != cfa.register {
+        return true;
+    }
+    last.offset != cfa.offset
 }
 
 // ---- what is written of a rule
@@ -517,30 +515,26 @@ fn put_default(out: &mut [u8], at: usize, fde: Fde, start: u64, moved: bool) -> 
     at
 }
 
-// The line of the row at a, what it says compared with `state`: `written` says that there is one, `moved` that the return register's rule changed.
+// The line of the row at a, its rules compared with `rules`: `changed` says that the CFA changed, `moved` that the return register's rule did.
 fn put_line(
     out: &mut [u8],
     at: usize,
     body: &[u32],
     a: usize,
     fde: Fde,
-    state: RowState,
-    written: bool,
+    changed: bool,
+    rules: RuleCache,
     moved: bool,
 ) -> usize
-    requires { ⌜ (a < 2 ^ 19) × (getD (now body) (a + 8) 0 ≤ 64) × (state .rules .count + fresh (lookup (state .rules)) (rowAt (now body) a .rules) ≤ 64) × T (once (registers (rowAt (now body) a .rules))) ⌝ }
-    ensures { λ r. ⌜ Put (now (out .entry)) at (cond written (lineBytes fde (wide (now (body .entry)) a) (ranOf fde (cfaOf state) (lookup (state .rules)) (rowAt (now (body .entry)) a)) moved) []) (now (out .exit)) r ⌝ }
+    requires { ⌜ (a < 2 ^ 19) × (getD (now body) (a + 8) 0 ≤ 64) × (rules .count + fresh (lookup rules) (rowAt (now body) a .rules) ≤ 64) × T (once (registers (rowAt (now body) a .rules))) ⌝ }
+    ensures { λ r. ⌜ Put (now (out .entry)) at (lineBytes fde (wide (now (body .entry)) a) (ranParts fde changed (lookup rules) (rowAt (now (body .entry)) a)) moved) (now (out .exit)) r ⌝ }
 {
-    if !written {
-        return at;
-    }
     let start = word64(body, a);
     let cfa = cfa_at(body, a);
     let n = word(body, a + 8) as usize;
-    let changed = state.cfa_differs(cfa);
     let p = put_start(out, at, fde, start);
     let p = write_cfa_rule(out, p, fde.family, cfa, changed);
-    let p = put_rules(out, p, body, a + 9, n, fde.family, fde.ra, state.rules);
+    let p = put_rules(out, p, body, a + 9, n, fde.family, fde.ra, rules);
     let p = put_default(out, p, fde, start, moved);
     put_byte(out, p, b'\n')
 }
@@ -559,9 +553,15 @@ fn put_row(out: &mut [u8], at: usize, body: &[u32], a: usize, fde: Fde, state: R
 {
     let n = word(body, a + 8) as usize;
     let cfa = cfa_at(body, a);
-    let already = cfa_written(fde.family, cfa, state.cfa_differs(cfa));
+    let last = state.cfa;
+    let changed = cfa_differs(state.cfa_seen, last, cfa);
+    let already = cfa_written(fde.family, cfa, changed);
     let scan = scan_rules(body, a + 9, n, fde.family, fde.ra, state.rules, already);
-    let p = put_line(out, at, body, a, fde, state, scan.written, scan.ra_written);
+    let mut p = at;
+    if scan.written {
+        let before = state.rules;
+        p = put_line(out, at, body, a, fde, changed, before, scan.ra_written);
+    }
     let rules = scan.rules;
     let state = RowState {
         cfa_seen: true,
