@@ -48,7 +48,10 @@ ghost use Rattle.dwarf.specs.Cache.{firstIn, lookup, behind, cfaIf, cfaO
 // The registers that rules may name in a body.
 const MOST_REGISTERS: usize = 64;
 
-// So many words hold at most 64 rules, of four words each behind the seven of the head.
+// The words of a row without its rules.
+const ROW_WORDS: usize = 9;
+
+// The words of a head and 64 rules.
 const FEW_WORDS: usize = 263;
 
 // Register numbers end here.
@@ -862,7 +865,8 @@ fn layout(body: &[u32]) -> bool
     if !rows_fit(body) {
         return false;
     }
-    if body.len() <= FEW_WORDS {
+    let rows = word(body, 6) as usize;
+    if body.len() <= FEW_WORDS + ROW_WORDS * rows {
         return true;
     }
     registers_fit(body)
