@@ -39,7 +39,7 @@ ghost use mathlib.Core.List.{[]};
 ghost use Prim.Native.Nat.{_+_, _-_, _^_, _<_, _≤_};
 ghost use lib.ListN.{getD, length, take};
 ghost use lib.Dec.{T, eqb, leb, ltb};
-ghost use Rattle.text.specs.Text.{Put};
+ghost use Rattle.text.specs.Text.{Put, ascii};
 ghost use Rattle.names.specs.Names.{cfiName};
 ghost use Rattle.entry.specs.Entry.{Processed};
 ghost use Rattle.dwarf.specs.Dwarf.{wide, twos, usedValue, ruleAt, rulesFrom, cfaAt, rows, firstStart, lastEnd, fdeOf, registers, member, once, ruleFits, rulesFit, rowFits, rowsFit, headFits, dwarfLayout, dwarfSkipped, anyBelow, dwarfReach, dwarfJudged, any, formBytes, ruleBytes, cfaBytes, raBytes, defaultBytes, startBytes, lineBytes, ranRow, cfaDiffers, ranRules, dwarfText, dwarfEntry, noCfa, nothingSeen, ranRows, ranParts, rulesOf, rowAt, distinct};
@@ -412,14 +412,50 @@ fn cfa_written(family: u32, cfa: CfaRule, changed: bool) -> bool
     false
 }
 
+// Whether the name before the colon is there.
+fn name_written(family: u32, ra: u32, register: u32) -> bool
+    ensures { λ r. ⌜ r ≡ any (cond (eqb register ra) (ascii ".ra") (cfiName family register)) ⌝ }
+{
+    if register == ra {
+        return true;
+    }
+    has_name(family, register)
+}
+
+fn value_named(family: u32, value: u64) -> bool
+    ensures { λ r. ⌜ r ≡ any (cfiName family value) ⌝ }
+{
+    if value < REGISTER_VALUES {
+        return has_name(family, value as u32);
+    }
+    false
+}
+
+// Whether there is anything behind the colon.
+fn form_written(family: u32, rule: RegisterRule) -> bool
+    ensures { λ r. ⌜ r ≡ any (formBytes family rule) ⌝ }
+{
+    let kind = rule.kind;
+    if kind == 0 {
+        return has_name(family, rule.register);
+    }
+    if kind == 3 {
+        return value_named(family, rule.value);
+    }
+    kind < 3
+}
+
+// Whether a register's rule writes anything: it need not be formatted.
 fn rule_written(family: u32, ra: u32, rule: RegisterRule, changed: bool) -> bool
     ensures { λ r. ⌜ r ≡ any (cond changed (ruleBytes family ra rule) []) ⌝ }
 {
-    if changed {
-        let f = format_rule(family, ra, rule);
-        return f.some;
+    if !changed {
+        return false;
     }
-    false
+    if !name_written(family, ra, rule.register) {
+        return false;
+    }
+    form_written(family, rule)
 }
 
 // A row's rules read once: what is seen after them, whether anything is written, and whether the return register's rule changed.
