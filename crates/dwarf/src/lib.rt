@@ -822,38 +822,53 @@ fn rows_fit(body: &[u32]) -> bool
     a == body.len()
 }
 
-// Registers met: their rules last seen, and whether there were more than 64.
+// Registers met, with their count.
+pub struct Registers {
+    pub number: [u32; 64],
+    pub count: usize,
+}
+
+impl Registers {
+    fn start() -> Registers
+        ensures { λ c. ⌜ c .count ≡ 0 ⌝ }
+    {
+        Registers {
+            number: [0; 64],
+            count: 0,
+        }
+    }
+}
+
+// The registers met, and whether there were more than 64.
 pub struct Met {
-    pub rules: RuleCache,
+    pub registers: Registers,
     pub over: bool,
 }
 
-fn meet_rules(body: &[u32], from: usize, n: usize, rules: RuleCache) -> Met
-    requires { ⌜ (from < 2 ^ 20) × (n ≤ 64) × (rules .count ≤ 64) ⌝ }
-    ensures { λ r. ⌜ Known rules (rulesFrom (now (body .entry)) n from) r ⌝ }
+fn meet_rules(body: &[u32], from: usize, n: usize, before: Registers) -> Met
+    requires { ⌜ (from < 2 ^ 20) × (n ≤ 64) × (before .count ≤ 64) ⌝ }
+    ensures { λ r. ⌜ Known before (registers (rulesFrom (now (body .entry)) n from)) r ⌝ }
 {
-    let mut seen = rules;
+    let mut met = before;
     let mut a = from;
     let mut k = n;
     while 0 < k {
-        let rule = rule_at(body, a);
-        let held = seen.count;
-        let q = place(&seen.register, held, rule.register);
+        let register = word(body, a);
+        let held = met.count;
+        let q = place(&met.number, held, register);
         if MOST_REGISTERS <= q {
             return Met {
-                rules: seen,
+                registers: met,
                 over: true,
             };
         }
-        seen.register[q] = rule.register;
-        seen.kind[q] = rule.kind;
-        seen.value[q] = rule.value;
-        seen.count = count_behind(held, q);
+        met.number[q] = register;
+        met.count = count_behind(held, q);
         a += 4;
         k -= 1;
     }
     Met {
-        rules: seen,
+        registers: met,
         over: false,
     }
 }
@@ -863,16 +878,16 @@ fn registers_fit(body: &[u32]) -> bool
     requires { ⌜ (getD (now body) 6 0 ≤ 1024) × T (rowsFit (now body) (getD (now body) 6 0) 7) ⌝ }
     ensures { λ r. ⌜ r ≡ leb (distinct [] (registers (rulesOf (rows (now (body .entry)))))) 64 ⌝ }
 {
-    let mut rules = RuleCache::start();
+    let mut registers = Registers::start();
     let mut a: usize = ROWS;
     let mut m = word(body, 6) as usize;
     while 0 < m {
         let n = word(body, a + 8) as usize;
-        let met = meet_rules(body, a + 9, n, rules);
+        let met = meet_rules(body, a + 9, n, registers);
         if met.over {
             return false;
         }
-        rules = met.rules;
+        registers = met.registers;
         a = a + 9 + 4 * n;
         m -= 1;
     }
