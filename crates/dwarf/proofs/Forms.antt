@@ -5,18 +5,18 @@ use native.Mathlib.Omega.{arith}
 use mathlib.Core.Bool.{Bool, true, false, not, cond, _&&_}
 use mathlib.Core.List.{List, [], _∷_, _++_}
 use lib.ListN.{length, List·getD-eq-default}
-use lib.Dec.{eqb}
-use borrow.Author.Tests.{ne-eqb}
+use lib.Dec.{eqb, ltb}
+use borrow.Author.Tests.{eq-eqb, ne-eqb, eqb-true, eqb-false, lt-ltb, le-ltb}
 use Rattle.text.specs.Text.{ascii, MAX, Put}
 use Rattle.text.specs.Text.Laws.{put-as, put-none}
 use Rattle.names.specs.Names.{table, cfiName, i386, x86-64, arm, arm64, ppc, mips}
 use Rattle.lines.specs.Lines.{Bytes, ruleText}
 use Rattle.lines.specs.Rules.{ruleOf}
+use Rattle.dwarf.specs.declared.RegisterRule.{RegisterRule}
 use Rattle.dwarf.specs.declared.CfaRule.{CfaRule}
-use Rattle.dwarf.specs.declared.RowState.{RowState}
 use Rattle.dwarf.specs.declared.Formatted.{Formatted}
-use Rattle.dwarf.specs.Dwarf.{any, namedBytes, cfaDiffers, lastCfa, noCfa}
-use Rattle.dwarf.specs.Cache.{cfaOf, formatted}
+use Rattle.dwarf.specs.Dwarf.{any, formBytes, namedBytes, cfaDiffers, lastCfa}
+use Rattle.dwarf.specs.Cache.{cfaIf, formatted}
 
 pub any-length : (n : List ℕ) → not (eqb (length n) 0) ≡ any n
 unfolding any
@@ -67,13 +67,43 @@ some-any f t e = go (f .some) ∙ ap any e
     go true = refl
     go false = refl
 
+-- a rule is written where its name and its form are there
+pub any-named : (n t : Bytes) → any (namedBytes n t) ≡ any n && any t
+unfolding namedBytes any
+any-named n t = go (any n && any t)
+  where
+    go : (u : Bool) → any (cond u (ascii " " ++ n ++ ascii ": " ++ t) []) ≡ u
+    go true = refl
+    go false = refl
+
+-- ---- whether there is a form, by the kinds
+
+module _ (f : ℕ) (x : RegisterRule) where
+  pub form-same : {t : Bool} → x .kind ≡ 0 → t ≡ any (cfiName f (x .register)) → t ≡ any (formBytes f x)
+  unfolding formBytes
+  form-same e k = rw (eq-eqb (x .kind) 0 e) k
+
+  pub form-register : {t : Bool} → x .kind ≡ 3 → t ≡ any (cfiName f (x .value)) → t ≡ any (formBytes f x)
+  unfolding formBytes
+  form-register e k = rw e k
+
+  pub form-plain : (x .kind ≡ 0 → ⊥) → (x .kind ≡ 3 → ⊥) → ltb (x .kind) 3 ≡ any (formBytes f x)
+  unfolding formBytes any
+  form-plain h k = go (eqb (x .kind) 1) refl (eqb (x .kind) 2) refl
+    where
+      go : (u : Bool) → eqb (x .kind) 1 ≡ u → (v : Bool) → eqb (x .kind) 2 ≡ v → ltb (x .kind) 3 ≡ any (formBytes f x)
+      go true e v g = rw (ne-eqb (x .kind) 0 h, e) (lt-ltb (x .kind) 3 (omega (arith, eqb-true (x .kind) 1 e)))
+      go false e true g = rw (ne-eqb (x .kind) 0 h, e, g) (lt-ltb (x .kind) 3 (omega (arith, eqb-true (x .kind) 2 g)))
+      go false e false g =
+          rw (ne-eqb (x .kind) 0 h, e, g, ne-eqb (x .kind) 3 k) (le-ltb (x .kind) 3 (omega (arith, h, k, eqb-false (x .kind) 1 e, eqb-false (x .kind) 2 g)))
+
 -- ---- the CFA last seen
 
-pub cfa-none : (s : RowState) (x : CfaRule) → s .«cfa_seen» ≡ false → true ≡ cfaDiffers (cfaOf s) x
-cfa-none s x e = sym (ap (λ (t : Bool). cfaDiffers (cond t (lastCfa (s .cfa)) noCfa) x) e)
+pub cfa-none : (s : Bool) (y x : CfaRule) → s ≡ false → true ≡ cfaDiffers (cfaIf s y) x
+cfa-none s y x e = sym (ap (λ (t : Bool). cfaDiffers (cfaIf t y) x) e)
 
-pub cfa-some : (s : RowState) (x : CfaRule) (t : Bool) → s .«cfa_seen» ≡ true → t ≡ cfaDiffers (lastCfa (s .cfa)) x → t ≡ cfaDiffers (cfaOf s) x
-cfa-some s x t e k = k ∙ sym (ap (λ (t : Bool). cfaDiffers (cond t (lastCfa (s .cfa)) noCfa) x) e)
+pub cfa-some : (s : Bool) (y x : CfaRule) (t : Bool) → s ≡ true → t ≡ cfaDiffers (lastCfa y) x → t ≡ cfaDiffers (cfaIf s y) x
+cfa-some s y x t e k = k ∙ sym (ap (λ (t : Bool). cfaDiffers (cfaIf t y) x) e)
 
 -- ---- puts, where a test holds, and where it does not
 

@@ -4,3 +4,4 @@ pub mod Store
 pub mod Forms
 pub mod Loops
 pub mod Rows
+pub mod Meeting

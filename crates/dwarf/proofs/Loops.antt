@@ -5,20 +5,18 @@ use native.Mathlib.Omega.{arith}
 use mathlib.Core.Bool.{Bool, true, false, not, cond, _&&_, _||_, or-assoc, or-false}
 use mathlib.Core.List.{List, [], _∷_, _++_}
 use lib.ListN.{length}
-use lib.Dec.{T, ltb, leb, eqb}
-use borrow.Author.Tests.{lt-ltb, le-ltb, lt-leb, le-leb, leb-false, ltb-true, ltb-false}
+use lib.Dec.{T, ltb, eqb}
 use Rattle.text.specs.Text.{MAX, Put, Left}
 use Rattle.text.specs.Text.Laws.{left-all, left-put, left-as, left-none}
 use Rattle.text.specs.Tests.{and-l, and-r}
 use Rattle.dwarf.specs.declared.RegisterRule.{RegisterRule}
 use Rattle.dwarf.specs.declared.RuleCache.{RuleCache}
-use Rattle.dwarf.specs.declared.Met.{Met}
 use Rattle.dwarf.specs.declared.RowState.{RowState}
 use Rattle.dwarf.specs.declared.Fde.{Fde}
 use Rattle.entry.specs.Entry.{word}
-use Rattle.dwarf.specs.Dwarf.{wide, ruleAt, rulesFrom, ruleCount, nextRow, rowAt, rowsFrom, rowCount, rows, lastEnd, anyBelow, registers, distinct, rulesOf, member, once, rowFits, rowsFit, dwarfLayout, Seen, differs, remember, any, ruleBytes, seenAfter, ranRules, ranMoved, ranRow, ranRows, CfaSeen, noCfa, lastCfa, nothingSeen}
+use Rattle.dwarf.specs.Dwarf.{wide, ruleAt, rulesFrom, ruleCount, nextRow, rowAt, rowsFrom, rowCount, rows, lastEnd, anyBelow, registers, rulesOf, member, once, rowFits, rowsFit, dwarfLayout, Seen, differs, remember, any, ruleBytes, seenAfter, ranRules, ranMoved, ranRow, ranRows, CfaSeen, noCfa, lastCfa, nothingSeen}
 use Rattle.dwarf.proofs.Store.{newly-few}
-use Rattle.dwarf.specs.Cache.{placeOf, lookup, newly, fresh, cfaOf, Known, Scanned, After}
+use Rattle.dwarf.specs.Cache.{placeOf, lookup, newly, fresh, cfaOf, Scanned, After}
 use Rattle.dwarf.specs.Index.{rules-step, rows-step, rows-fit-step, row-few, row-bound, layout-few, layout-rows, layout-distinct, fresh-append, fresh-distinct, rowRules, once-rest, fresh-free}
 
 -- ---- over rows: m are left, from word a on
@@ -114,18 +112,6 @@ module _ {ws : List ℕ} {c₀ : RuleCache} {from n : ℕ} {c : RuleCache} {a k 
       → RulesLeft ws c₀ from n c₁ (a + 4) (k - 1)
   rules-turn {c₁} {x} l h i room e f = turn-at l h (rw i at room) (rw i at e) (rw i at f)
 
-  -- no room for the next one: no room for all
-  pub rules-over : {r : Met} {x : RegisterRule} → RulesLeft ws c₀ from n c a k → 0 < k → x ≡ ruleAt ws a
-      → leb (c .count + newly (lookup c (x .register))) 64 ≡ false → r .over ≡ true → Known c₀ (rulesFrom ws n from) r
-  rules-over {r} {x} l h i room e = record {
-    tells = e ∙ sym (lt-ltb 64 (c₀ .count + fresh (lookup c₀) (rulesFrom ws n from)) (omega (arith, next-counts l h, leb-false (c .count + newly (lookup c (ruleAt ws a .register))) 64 (rw i at room))));
-    sees = λ k. absurd (apart (sym e ∙ k));
-    counts = λ k. absurd (apart (sym e ∙ k));
-  }
-    where
-      apart : true ≡ false → ⊥
-      apart k = let z : _≡_ {A = ℕ} 0 1 = cc in omega arith
-
   done-counts : RulesLeft ws c₀ from n c a k → k ≤ 0 → c .count ≡ c₀ .count + fresh (lookup c₀) (rulesFrom ws n from)
   unfolding rulesFrom fresh
   done-counts l h = let z : k ≡ 0 = omega arith in omega (arith, rw z at (l .counts))
@@ -133,13 +119,6 @@ module _ {ws : List ℕ} {c₀ : RuleCache} {from n : ℕ} {c : RuleCache} {a k 
   done-sees : RulesLeft ws c₀ from n c a k → k ≤ 0 → lookup c ≡ seenAfter (lookup c₀) (rulesFrom ws n from)
   unfolding rulesFrom seenAfter
   done-sees l h = let z : k ≡ 0 = omega arith in rw z at (l .sees)
-
-  pub rules-known : RulesLeft ws c₀ from n c a k → k ≤ 0 → Known c₀ (rulesFrom ws n from) (record { rules = c; over = false })
-  rules-known l h = record {
-    tells = sym (le-ltb 64 (c₀ .count + fresh (lookup c₀) (rulesFrom ws n from)) (omega (arith, done-counts l h, l .few)));
-    sees = λ e. done-sees l h;
-    counts = λ e. done-counts l h;
-  }
 
 -- ---- the first pass over a row's rules: whether something is written, and whether the return register's rule changed
 
@@ -239,53 +218,12 @@ module _ {ws : List ℕ} {f ra : ℕ} {c : RuleCache} {from n : ℕ} {d : List �
   unfolding rulesFrom rowRules
   put-done l h = let z : k ≡ 0 = omega arith in left-none (rw z at (l .text))
 
--- ---- over all rows: the registers met, and the lines
-
-pub record MetLeft (ws : List ℕ) (c : RuleCache) (a m : ℕ) : Type 0 where
-  pub rest : Rest ws a m
-  pub few : c .count ≤ 64
-  pub counts : c .count + fresh (lookup c) (rulesOf (rowsFrom ws m a)) ≡ distinct [] (registers (rulesOf (rows ws)))
-
-pub met-all : {ws : List ℕ} {c : RuleCache} → rowCount ws ≤ 1024 → T (rowsFit ws (rowCount ws) 7) → c .count ≡ 0 → lookup c ≡ nothingSeen → MetLeft ws c 7 (rowCount ws)
-unfolding rows
-met-all {ws} {c} h k e f = record {
-  rest = rest-of h k;
-  few = omega arith;
-  counts = omega (arith, ap (λ (g : ℕ → Seen). fresh g (rulesOf (rowsFrom ws (rowCount ws) 7))) f, fresh-distinct (rulesOf (rowsFrom ws (rowCount ws) 7)));
-}
+-- ---- over all rows: the lines
 
 fresh-rows : (ws : List ℕ) (c : ℕ → Seen) (a m : ℕ) → 0 < m
     → fresh c (rulesOf (rowsFrom ws m a)) ≡ fresh c (rowAt ws a .rules) + fresh (seenAfter c (rowAt ws a .rules)) (rulesOf (rowsFrom ws (m - 1) (nextRow ws a)))
 unfolding rulesOf
 fresh-rows ws c a m h = rw (rows-step ws m a h) (fresh-append c (rowAt ws a .rules) (rulesOf (rowsFrom ws (m - 1) (nextRow ws a))))
-
-module _ {ws : List ℕ} {c : RuleCache} {a m : ℕ} where
-  -- more than 64 in a row: more than 64 in all
-  pub met-over : {r : Met} → MetLeft ws c a m → 0 < m → Known c (rowAt ws a .rules) r → r .over ≡ true
-      → false ≡ leb (distinct [] (registers (rulesOf (rows ws)))) 64
-  met-over {r} l h k e = sym (lt-leb (distinct [] (registers (rulesOf (rows ws)))) 64 (omega (
-    arith,
-    l .counts,
-    fresh-rows ws (lookup c) a m h,
-    ltb-true 64 (c .count + fresh (lookup c) (rowAt ws a .rules)) (sym (k .tells) ∙ e),
-  )))
-
-  pub met-turn : {r : Met} → MetLeft ws c a m → 0 < m → Known c (rowAt ws a .rules) r → r .over ≡ false → MetLeft ws (r .rules) (nextRow ws a) (m - 1)
-  met-turn {r} l h k e = record {
-    rest = rest-turn (l .rest) h;
-    few = omega (arith, k .counts e, ltb-false 64 (c .count + fresh (lookup c) (rowAt ws a .rules)) (sym (k .tells) ∙ e));
-    counts = omega (
-      arith,
-      l .counts,
-      fresh-rows ws (lookup c) a m h,
-      k .counts e,
-      ap (λ (g : ℕ → Seen). fresh g (rulesOf (rowsFrom ws (m - 1) (nextRow ws a)))) (k .sees e),
-    );
-  }
-
-  pub met-done : MetLeft ws c a m → m ≤ 0 → true ≡ leb (distinct [] (registers (rulesOf (rows ws)))) 64
-  unfolding rowsFrom rulesOf fresh
-  met-done l h = let z : m ≡ 0 = omega arith in sym (le-leb (distinct [] (registers (rulesOf (rows ws)))) 64 (omega (arith, rw z at (l .counts), l .few)))
 
 pub record RowsLeft (ws : List ℕ) (e : Fde) (d : List ℕ) (at : ℕ) (d₁ : List ℕ) (p : ℕ) (s : RowState) (a m : ℕ) : Type 0 where
   pub rest : Rest ws a m

@@ -3,8 +3,8 @@ use mathlib.Core.List.{List, [], _∷_, _++_}
 use mathlib.Core.Path.{_≡_, refl, ap, sym, _∙_}
 use Prim.Native.Nat.{ℕ, zero, suc, _+_, _≤_, _<_}
 use native.Mathlib.Omega.{arith}
-use lib.ListN.{length, take, getD}
-use lib.Seq.{length-take-le, getD-take}
+use lib.ListN.{length, take, getD, set}
+use lib.Seq.{length-take-le, getD-take, set-getD}
 use mathlib.Core.Bool.{Bool, true, false, cond}
 use lib.Dec.{eqb}
 use borrow.Author.Tests.{eq-eqb, ne-eqb, eqb-true}
@@ -54,6 +54,13 @@ first-holds (x ∷ l) q h = go (eqb x q) refl h (first-holds l q)
         → getD (x ∷ l) (cond b 0 (suc (firstIn l q))) 0 ≡ q
     go true e h′ i = eqb-true x q e
     go false e h′ i = i (omega arith)
+
+-- so it may be stored there
+pub set-first : (l : List ℕ) (n q : ℕ) → n ≤ length l → firstIn (take n l) q < n → set l (firstIn (take n l) q) q ≡ l
+set-first l n q fits h =
+    let long : length (take n l) ≡ n = length-take-le n l fits in
+    let e : getD l (firstIn (take n l) q) 0 ≡ q = sym (getD-take n l (firstIn (take n l) q) 0 h) ∙ first-holds (take n l) q (omega arith) in
+    ap (set l (firstIn (take n l) q)) (sym e) ∙ set-getD l (firstIn (take n l) q) 0
 
 -- a list with a tail: the first place in the front if there is one, else in the tail
 pub first-front : (l m : List ℕ) (q : ℕ) → firstIn l q < length l → firstIn (l ++ m) q ≡ firstIn l q

@@ -6,13 +6,13 @@ use Prim.Native.Nat.{ℕ, _+_, _≤_, _<_}
 use native.Mathlib.Numerals.{add-one}
 use native.Mathlib.Omega.{arith}
 use lib.ListN.{length, take, getD, set}
-use lib.Seq.{length-take-le, getD-take, set-getD, getD-set-same, getD-set-other, take-suc-set}
-use lib.Dec.{eqb, ltb, leb}
-use borrow.Author.Tests.{eq-eqb, ne-eqb, eqb-true, eqb-false, lt-ltb, le-ltb, ltb-true, ltb-false, le-leb, lt-leb, leb-true}
+use lib.Seq.{length-take-le, getD-set-same, getD-set-other, take-suc-set}
+use lib.Dec.{eqb, ltb}
+use borrow.Author.Tests.{eq-eqb, ne-eqb, eqb-true, eqb-false, lt-ltb, le-ltb, ltb-true, ltb-false}
 use Rattle.dwarf.specs.declared.RuleCache.{RuleCache}
 use Rattle.dwarf.specs.Dwarf.{Seen, never, seen, differs, remembered}
 use Rattle.dwarf.specs.Cache.{firstIn, placeOf, lookup, newly, behind}
-use Rattle.dwarf.proofs.Places.{first-le, first-holds, first-front, first-tail}
+use Rattle.dwarf.proofs.Places.{first-le, first-holds, first-front, first-tail, set-first}
 
 pub seen-at : (c : RuleCache) (r p : ℕ) → placeOf c r ≡ p → p < c .count → lookup c r ≡ seen (getD (c .kind) p 0) (getD (c .value) p 0)
 unfolding lookup
@@ -116,22 +116,6 @@ newly-at c r h = ap newly (seen-at c r (placeOf c r) refl h)
 pub newly-not : (c : RuleCache) (r : ℕ) → c .count ≤ placeOf c r → newly (lookup c r) ≡ 1
 newly-not c r h = ap newly (seen-not c r h)
 
-one-more : (n : ℕ) (b : Bool) → ltb n 64 ≡ b → ltb n 64 ≡ leb (n + 1) 64
-one-more n true e = e ∙ sym (le-leb (n + 1) 64 (omega (arith, ltb-true n 64 e)))
-one-more n false e = e ∙ sym (lt-leb (n + 1) 64 (omega (arith, ltb-false n 64 e)))
-
-pub newly-place : (c : RuleCache) (r : ℕ) → c .count ≤ length (c .register) → c .count ≤ 64 → ltb (placeOf c r) 64 ≡ leb (c .count + newly (lookup c r)) 64
-newly-place c r fits h = go (ltb (placeOf c r) (c .count)) refl
-  where
-    go : (b : Bool) → ltb (placeOf c r) (c .count) ≡ b → ltb (placeOf c r) 64 ≡ leb (c .count + newly (lookup c r)) 64
-    go true e =
-        let l : placeOf c r < c .count = ltb-true (placeOf c r) (c .count) e in
-        rw (newly-at c r l) (lt-ltb (placeOf c r) 64 (omega arith) ∙ sym (le-leb (c .count + 0) 64 (omega arith)))
-    go false e =
-        let l : c .count ≤ placeOf c r = ltb-false (placeOf c r) (c .count) e in
-        let z : placeOf c r ≡ c .count = omega (arith, place-le c r fits) in
-        rw (newly-not c r l, z) (one-more (c .count) (ltb (c .count) 64) refl)
-
 pub newly-few : (c : RuleCache) (r : ℕ) → c .count ≤ length (c .register) → c .count + newly (lookup c r) ≤ 64 → placeOf c r < 64
 newly-few c r fits h = go (ltb (placeOf c r) (c .count)) refl
   where
@@ -139,23 +123,9 @@ newly-few c r fits h = go (ltb (placeOf c r) (c .count)) refl
     go true e = omega (arith, ltb-true (placeOf c r) (c .count) e)
     go false e = omega (arith, newly-not c r (ltb-false (placeOf c r) (c .count) e), place-le c r fits)
 
--- room for a register, by its place
-pub room-of : (c : RuleCache) (r : ℕ) {q : ℕ} → c .count ≤ length (c .register) → c .count ≤ 64 → q ≡ placeOf c r → q < 64 → c .count + newly (lookup c r) ≤ 64
-room-of c r fits few e h = leb-true (c .count + newly (lookup c r)) 64 (sym (newly-place c r fits few) ∙ lt-ltb (placeOf c r) 64 (omega arith))
-
-pub no-room : (c : RuleCache) (r : ℕ) {q : ℕ} → c .count ≤ length (c .register) → c .count ≤ 64 → q ≡ placeOf c r → 64 ≤ q → leb (c .count + newly (lookup c r)) 64 ≡ false
-no-room c r fits few e h = sym (newly-place c r fits few) ∙ le-ltb (placeOf c r) 64 (omega arith)
-
 -- ---- a rule stored at its register's place, with the count behind it
 
 module _ (c : RuleCache) (r k v : ℕ) (lr : length (c .register) ≡ 64) (lk : length (c .kind) ≡ 64) (lv : length (c .value) ≡ 64) (room : c .count + newly (lookup c r) ≤ 64) where
-  -- what stands at the place of a register that is there is the register
-  holds : placeOf c r < c .count → set (c .register) (placeOf c r) r ≡ c .register
-  holds h =
-      let long : length (take (c .count) (c .register)) ≡ c .count = length-take-le (c .count) (c .register) (omega arith) in
-      let e : getD (c .register) (placeOf c r) 0 ≡ r = sym (getD-take (c .count) (c .register) (placeOf c r) 0 h) ∙ first-holds (take (c .count) (c .register)) r (omega arith) in
-      ap (set (c .register) (placeOf c r)) (sym e) ∙ set-getD (c .register) (placeOf c r) 0
-
   counts : (b : Bool) → ltb (placeOf c r) (c .count) ≡ b → behind (c .count) (placeOf c r) ≡ c .count + newly (lookup c r)
   counts true e =
       let l : placeOf c r < c .count = ltb-true (placeOf c r) (c .count) e in
@@ -173,7 +143,7 @@ module _ (c : RuleCache) (r k v : ℕ) (lr : length (c .register) ≡ 64) (lk : 
   sees : (b : Bool) → ltb (placeOf c r) (c .count) ≡ b → lookup (stored (placeOf c r) (behind (c .count) (placeOf c r))) ≡ remembered (lookup c) r k v
   sees true e =
       let l : placeOf c r < c .count = ltb-true (placeOf c r) (c .count) e in
-      rw (holds l, ne-eqb (placeOf c r) (c .count) (λ z. omega arith)) (fun-ext (replaced c r k v (omega arith) (omega arith) (omega arith) l))
+      rw (set-first (c .register) (c .count) r (omega arith) l, ne-eqb (placeOf c r) (c .count) (λ z. omega arith)) (fun-ext (replaced c r k v (omega arith) (omega arith) (omega arith) l))
   sees false e =
       let l : c .count ≤ placeOf c r = ltb-false (placeOf c r) (c .count) e in
       let z : placeOf c r ≡ c .count = omega (arith, place-le c r (omega arith)) in

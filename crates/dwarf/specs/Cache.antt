@@ -1,20 +1,22 @@
 -- The rules last seen as the code keeps them: arrays with a count, and what they say of each register.
 use mathlib.Core.Path.{_≡_}
 use mathlib.Core.Bool.{Bool, false, cond, _||_}
-use mathlib.Core.List.{List, [], _∷_}
+use mathlib.Core.List.{List, [], _∷_, _++_}
 use Prim.Native.Nat.{ℕ, suc, _+_}
 use lib.ListN.{take, getD}
 use lib.Dec.{eqb, ltb}
 use Rattle.lines.specs.Lines.{formText, ruleText}
 use Rattle.lines.specs.Rules.{formOf, ruleOf}
 use Rattle.dwarf.specs.declared.RegisterRule.{RegisterRule}
+use Rattle.dwarf.specs.declared.CfaRule.{CfaRule}
 use Rattle.dwarf.specs.declared.RuleCache.{RuleCache}
 use Rattle.dwarf.specs.declared.RowState.{RowState}
 use Rattle.dwarf.specs.declared.RowScan.{RowScan}
+use Rattle.dwarf.specs.declared.Registers.{Registers}
 use Rattle.dwarf.specs.declared.Met.{Met}
 use Rattle.dwarf.specs.declared.Formed.{Formed}
 use Rattle.dwarf.specs.declared.Formatted.{Formatted}
-use Rattle.dwarf.specs.Dwarf.{Seen, never, seen, CfaSeen, noCfa, lastCfa, remember, Row, any, seenAfter, ranRules, ranMoved}
+use Rattle.dwarf.specs.Dwarf.{Seen, never, seen, CfaSeen, noCfa, lastCfa, distinct, remember, Row, any, seenAfter, ranRules, ranMoved}
 
 -- the first place of q in a list, or the list's length
 unfoldable pub firstIn : List ℕ → ℕ → ℕ
@@ -33,9 +35,12 @@ behind n p = cond (eqb p n) (n + 1) n
 unfoldable pub lookup : RuleCache → ℕ → Seen
 lookup c q = cond (ltb (placeOf c q) (c .count)) (seen (getD (c .kind) (placeOf c q) 0) (getD (c .value) (placeOf c q) 0)) never
 
--- the CFA last seen
+-- the CFA last seen, if any
+abbrev pub cfaIf : Bool → CfaRule → CfaSeen
+cfaIf t x = cond t (lastCfa x) noCfa
+
 abbrev pub cfaOf : RowState → CfaSeen
-cfaOf s = cond (s .«cfa_seen») (lastCfa (s .cfa)) noCfa
+cfaOf s = cfaIf (s .«cfa_seen») (s .cfa)
 
 -- a register that was never seen takes one place more
 abbrev pub newly : Seen → ℕ
@@ -71,14 +76,19 @@ pub record Scanned (family ra : ℕ) (c : RuleCache) (already : Bool) (xs : List
   pub writes : r .written ≡ already || any (ranRules family ra (lookup c) xs)
   pub moves : r .«ra_written» ≡ ranMoved ra (lookup c) xs
 
--- where there is no room for all, only that is known
-pub record Known (c : RuleCache) (xs : List RegisterRule) (r : Met) : Type 0 where
-  pub tells : r .over ≡ ltb 64 (c .count + fresh (lookup c) xs)
-  pub sees : r .over ≡ false → lookup (r .rules) ≡ seenAfter (lookup c) xs
-  pub counts : r .over ≡ false → r .rules .count ≡ c .count + fresh (lookup c) xs
-
 -- the state behind a row
 pub record After (s : RowState) (w : Row) (r : RowState) : Type 0 where
   pub cfa-is : cfaOf r ≡ lastCfa (w .cfa)
   pub sees : lookup (r .rules) ≡ seenAfter (lookup (s .rules)) (w .rules)
   pub counts : r .rules .count ≡ s .rules .count + fresh (lookup (s .rules)) (w .rules)
+
+-- ---- the registers met in a body
+
+-- in the order in which they were met
+abbrev pub held : Registers → List ℕ
+held c = take (c .count) (c .number)
+
+-- after c the registers rs: whether there is no room for all, and else what others, ys, will add
+pub record Known (c : Registers) (rs : List ℕ) (r : Met) : Type 0 where
+  pub tells : r .over ≡ ltb 64 (c .count + distinct (held c) rs)
+  pub counts : r .over ≡ false → (ys : List ℕ) → r .registers .count + distinct (held (r .registers)) ys ≡ c .count + distinct (held c) (rs ++ ys)

@@ -279,9 +279,12 @@ unfoldable pub ranMoved : ℕ → (ℕ → Seen) → List RegisterRule → Bool
 ranMoved ra c [] = false
 ranMoved ra c (x ∷ xs) = (eqb (x .register) ra && differs (c (x .register)) (x .kind) (x .value)) || ranMoved ra (remember c x) xs
 
--- a row's CFA, then its rules
+-- a row's CFA, where it changed, then its rules
+abbrev pub ranParts : Fde → Bool → (ℕ → Seen) → Row → List ℕ
+ranParts e changed c w = cond changed (cfaBytes (e .family) (w .cfa)) [] ++ ranRules (e .family) (e .ra) c (w .rules)
+
 unfoldable pub ranOf : Fde → CfaSeen → (ℕ → Seen) → Row → List ℕ
-ranOf e s c w = cond (cfaDiffers s (w .cfa)) (cfaBytes (e .family) (w .cfa)) [] ++ ranRules (e .family) (e .ra) c (w .rules)
+ranOf e s c w = ranParts e (cfaDiffers s (w .cfa)) c w
 
 -- a row against what was last seen
 unfoldable pub ranRow : Fde → CfaSeen → (ℕ → Seen) → Row → List ℕ

@@ -63,13 +63,13 @@ pub layout-distinct : (ws : List ℕ) → T (dwarfLayout ws) → distinct [] (re
 unfolding dwarfLayout
 layout-distinct ws h = leb→le (distinct [] (registers (rulesOf (rows ws)))) 64 (and-r (rowsFit ws (rowCount ws) 7) _ (and-r (headFits ws) _ h))
 
--- a body of few words has few rules, and so few registers
+-- a body of few words for its rows has few rules, and so few registers
 rules-long : (ws : List ℕ) (n a : ℕ) → length (rulesFrom ws n a) ≡ n
 unfolding rulesFrom
 rules-long ws zero a = refl
 rules-long ws (suc n) a = ap suc (rules-long ws n (a + 4))
 
-rows-words : (ws : List ℕ) (m a : ℕ) → T (rowsFit ws m a) → 4 * length (rulesOf (rowsFrom ws m a)) + a ≤ length ws
+rows-words : (ws : List ℕ) (m a : ℕ) → T (rowsFit ws m a) → 4 * length (rulesOf (rowsFrom ws m a)) + 9 * m + a ≤ length ws
 unfolding rowsFit rowsFrom rulesOf
 rows-words ws zero a h = omega (arith, eqb→eq a (length ws) h)
 rows-words ws (suc m) a h =
@@ -85,7 +85,7 @@ distinct-few met (x ∷ xs) = go (member (x .register) met) (distinct-few (x .re
     go true h = omega arith
     go false h = omega arith
 
-pub few-words : (ws : List ℕ) → T (rowsFit ws (rowCount ws) 7) → length ws ≤ 263 → true ≡ leb (distinct [] (registers (rulesOf (rows ws)))) 64
+pub few-words : (ws : List ℕ) → T (rowsFit ws (rowCount ws) 7) → length ws ≤ 263 + 9 * rowCount ws → true ≡ leb (distinct [] (registers (rulesOf (rows ws)))) 64
 unfolding rows
 few-words ws h k =
     sym (le-leb (distinct [] (registers (rulesOf (rows ws)))) 64 (omega (arith, rows-words ws (rowCount ws) 7 h, distinct-few [] (rulesOf (rowsFrom ws (rowCount ws) 7)))))

@@ -9,16 +9,6 @@
 //     2 value offset   N, signed      is CFA + N
 //     3 register       register       is that register
 //     4 other          -              cannot be written; it is remembered all the same
-//
-// A body's words (document 01), where a 64-bit number is two words, the low one first:
-//
-//     0                family
-//     1                initial address
-//     3                load address
-//     5                return register
-//     6                row count
-//     7                rows, each: start, end (2), CFA kind (4), CFA register (5), CFA offset (6), rule count (8), rules (9)
-//     of a rule        register, kind (1), value (2); four words in all
 use entry::Judged;
 use entry::Last;
 use entry::Wrote;
@@ -39,26 +29,81 @@ ghost use mathlib.Core.List.{[]};
 ghost use Prim.Native.Nat.{_+_, _-_, _^_, _<_, _≤_};
 ghost use lib.ListN.{getD, length, take};
 ghost use lib.Dec.{T, eqb, leb, ltb};
-ghost use Rattle.text.specs.Text.{Put};
+ghost use Rattle.text.specs.Text.{Put, ascii};
 ghost use Rattle.names.specs.Names.{cfiName};
 ghost use Rattle.entry.specs.Entry.{Processed};
-ghost use Rattle.dwarf.specs.Dwarf.{wide, twos, usedValue, ruleAt, rulesFrom, cfaAt, rows, firstStart, lastEnd, fdeOf, registers, member, once, ruleFits, rulesFit, rowFits, rowsFit, headFits, dwarfLayout, dwarfSkipped, anyBelow, dwarfReach, dwarfJudged, any, formBytes, ruleBytes, cfaBytes, raBytes, defaultBytes, startBytes, lineBytes, ranRow, cfaDiffers, ranRules, dwarfText, dwarfEntry, noCfa, nothingSeen, ranRows, ranOf, rulesOf, rowAt, distinct};
-ghost use Rattle.dwarf.specs.Cache.{firstIn, lookup, behind, cfaOf, fresh, Forms, formatted, Scanned, After, Known};
+ghost use Rattle.dwarf.specs.Dwarf.{wide, twos, usedValue, ruleAt, rulesFrom, cfaAt, rows, firstStart, lastEnd, fdeOf, registers, member, once, ruleFits, rulesFit, rowFits, rowsFit, headFits, dwarfLayout, dwarfSkipped, anyBelow, dwarfReach, dwarfJudged, any, formBytes, ruleBytes, cfaBytes, raBytes, defaultBytes, startBytes, lineBytes, ranRow, cfaDiffers, ranRules, dwarfText, dwarfEntry, noCfa, nothingSeen, ranRows, ranParts, rulesOf, rowAt, distinct};
+ghost use Rattle.dwarf.specs.Cache.{firstIn, lookup, behind, cfaIf, cfaOf, fresh, Forms, formatted, Scanned, After, Known};
+
+// Where the words of a body stand. A 64-bit number is two words, the low one first.
+const FAMILY_AT: usize = 0;
+
+const INITIAL_ADDRESS_AT: usize = 1;
+
+const LOAD_ADDRESS_AT: usize = 3;
+
+const RETURN_REGISTER_AT: usize = 5;
+
+const ROW_COUNT_AT: usize = 6;
+
+// The rows follow.
+const ROWS_AT: usize = 7;
+
+// Where the words of a row stand, behind its start.
+const END_AT: usize = 2;
+
+const CFA_KIND_AT: usize = 4;
+
+const CFA_REGISTER_AT: usize = 5;
+
+const CFA_OFFSET_AT: usize = 6;
+
+const RULE_COUNT_AT: usize = 8;
+
+// The rules follow.
+const RULES_AT: usize = 9;
+
+// Where the words of a rule stand, behind its register.
+const KIND_AT: usize = 1;
+
+const VALUE_AT: usize = 2;
+
+const RULE_WORDS: usize = 4;
+
+// The kinds of a rule.
+const SAME: u32 = 0;
+
+const OFFSET: u32 = 1;
+
+const VALUE_OFFSET: u32 = 2;
+
+const REGISTER: u32 = 3;
+
+const OTHER: u32 = 4;
+
+// The kinds of a CFA: register + offset, or an expression.
+const CFA_REGISTER: u32 = 0;
+
+const CFA_EXPRESSION: u32 = 1;
+
+// The largest that document 01 allows.
+const MOST_FAMILY: u32 = 10;
+
+const MOST_ROWS: u32 = 1024;
+
+const MOST_RULES: u32 = 64;
 
 // The registers that rules may name in a body.
 const MOST_REGISTERS: usize = 64;
 
-// So many words hold at most 64 rules, of four words each behind the seven of the head.
-const FEW_WORDS: usize = 263;
+// The words of a head and of so many rules.
+const FEW_WORDS: usize = ROWS_AT + RULE_WORDS * MOST_REGISTERS;
 
 // Register numbers end here.
 const REGISTERS: u32 = 65536;
 
 // And here as values of rules.
 const REGISTER_VALUES: u64 = 65536;
-
-// The first row's first word.
-const ROWS: usize = 7;
 
 // An initial address that marks an entry as void.
 const ALL_ONES: u64 = 0xffff_ffff_ffff_ffff;
@@ -115,10 +160,10 @@ fn signed_of(w: u64) -> i64
 fn used_value(kind: u32, value: u64) -> u64
     ensures { λ r. ⌜ r ≡ usedValue kind value ⌝ }
 {
-    if kind < 1 {
+    if kind < OFFSET {
         return 0;
     }
-    if 3 < kind {
+    if REGISTER < kind {
         return 0;
     }
     value
@@ -130,8 +175,8 @@ fn rule_at(body: &[u32], a: usize) -> RegisterRule
     ensures { λ r. ⌜ r ≡ ruleAt (now (body .entry)) a ⌝ }
 {
     let register = word(body, a);
-    let kind = word(body, a + 1);
-    let value = used_value(kind, word64(body, a + 2));
+    let kind = word(body, a + KIND_AT);
+    let value = used_value(kind, word64(body, a + VALUE_AT));
     RegisterRule {
         register,
         kind,
@@ -144,10 +189,10 @@ fn cfa_at(body: &[u32], a: usize) -> CfaRule
     requires { ⌜ a < 2 ^ 21 ⌝ }
     ensures { λ r. ⌜ r ≡ cfaAt (now (body .entry)) a ⌝ }
 {
-    let kind = word(body, a + 4);
-    if kind == 0 {
-        let register = word(body, a + 5);
-        let offset = word64(body, a + 6);
+    let kind = word(body, a + CFA_KIND_AT);
+    if kind == CFA_REGISTER {
+        let register = word(body, a + CFA_REGISTER_AT);
+        let offset = word64(body, a + CFA_OFFSET_AT);
         return CfaRule {
             kind,
             register,
@@ -235,22 +280,20 @@ pub struct RowState {
     pub rules: RuleCache,
 }
 
-impl RowState {
-    fn cfa_differs(self, cfa: CfaRule) -> bool
-        ensures { λ r. ⌜ r ≡ cfaDiffers (cfaOf self) cfa ⌝ }
-    {
-        if !self.cfa_seen {
-            return true;
-        }
-        let last = self.cfa;
-        if last.kind != cfa.kind {
-            return true;
-        }
-        if last.register != cfa.register {
-            return true;
-        }
-        last.offset != cfa.offset
+// Whether a CFA differs from the one last seen, if any.
+fn cfa_differs(seen: bool, last: CfaRule, cfa: CfaRule) -> bool
+    ensures { λ r. ⌜ r ≡ cfaDiffers (cfaIf seen last) cfa ⌝ }
+{
+    if !seen {
+        return true;
     }
+    if last.kind != cfa.kind {
+        return true;
+    }
+    if last.register != cfa.register {
+        return true;
+    }
+    last.offset != cfa.offset
 }
 
 // ---- what is written of a rule
@@ -302,18 +345,18 @@ fn value_form(family: u32, value: u64) -> Formed
 fn rule_form(family: u32, rule: RegisterRule) -> Formed
     ensures { λ r. ⌜ Forms (formBytes family rule) r ⌝ }
 {
-    if rule.kind == 0 {
+    if rule.kind == SAME {
         return register_form(family, rule.register);
     }
-    if rule.kind == 1 {
+    if rule.kind == OFFSET {
         let form = Form::AtCfaPlus(signed_of(rule.value));
         return Formed { some: true, form };
     }
-    if rule.kind == 2 {
+    if rule.kind == VALUE_OFFSET {
         let form = Form::CfaPlus(signed_of(rule.value));
         return Formed { some: true, form };
     }
-    if rule.kind == 3 {
+    if rule.kind == REGISTER {
         return value_form(family, rule.value);
     }
     no_form()
@@ -341,7 +384,7 @@ fn format_cfa(family: u32, cfa: CfaRule) -> Formatted
     ensures { λ r. ⌜ formatted r ≡ cfaBytes family cfa ⌝ }
 {
     let named = has_name(family, cfa.register);
-    let some = both(cfa.kind == 0, named);
+    let some = both(cfa.kind == CFA_REGISTER, named);
     let reg = Reg::Cfi(family, cfa.register);
     let form = Form::RegisterPlus(reg, signed_of(cfa.offset));
     let name = Name::Cfa;
@@ -411,14 +454,50 @@ fn cfa_written(family: u32, cfa: CfaRule, changed: bool) -> bool
     false
 }
 
+// Whether the name before the colon is there.
+fn name_written(family: u32, ra: u32, register: u32) -> bool
+    ensures { λ r. ⌜ r ≡ any (cond (eqb register ra) (ascii ".ra") (cfiName family register)) ⌝ }
+{
+    if register == ra {
+        return true;
+    }
+    has_name(family, register)
+}
+
+fn value_named(family: u32, value: u64) -> bool
+    ensures { λ r. ⌜ r ≡ any (cfiName family value) ⌝ }
+{
+    if value < REGISTER_VALUES {
+        return has_name(family, value as u32);
+    }
+    false
+}
+
+// Whether there is anything behind the colon.
+fn form_written(family: u32, rule: RegisterRule) -> bool
+    ensures { λ r. ⌜ r ≡ any (formBytes family rule) ⌝ }
+{
+    let kind = rule.kind;
+    if kind == SAME {
+        return has_name(family, rule.register);
+    }
+    if kind == REGISTER {
+        return value_named(family, rule.value);
+    }
+    kind < REGISTER
+}
+
+// Whether a register's rule writes anything: it need not be formatted.
 fn rule_written(family: u32, ra: u32, rule: RegisterRule, changed: bool) -> bool
     ensures { λ r. ⌜ r ≡ any (cond changed (ruleBytes family ra rule) []) ⌝ }
 {
-    if changed {
-        let f = format_rule(family, ra, rule);
-        return f.some;
+    if !changed {
+        return false;
     }
-    false
+    if !name_written(family, ra, rule.register) {
+        return false;
+    }
+    form_written(family, rule)
 }
 
 // A row's rules read once: what is seen after them, whether anything is written, and whether the return register's rule changed.
@@ -457,7 +536,7 @@ fn scan_rules(
         seen.count = count_behind(held, q);
         written = either(written, rule_written(family, ra, rule, changed));
         moved = either(moved, both(rule.register == ra, changed));
-        a += 4;
+        a += RULE_WORDS;
         k -= 1;
     }
     RowScan {
@@ -491,7 +570,7 @@ fn put_rules(
         let same = both(rules.kind[q] == rule.kind, rules.value[q] == rule.value);
         let changed = !both(q < held, same);
         p = write_register_rule(out, p, family, ra, rule, changed);
-        a += 4;
+        a += RULE_WORDS;
         k -= 1;
     }
     p
@@ -517,30 +596,26 @@ fn put_default(out: &mut [u8], at: usize, fde: Fde, start: u64, moved: bool) -> 
     at
 }
 
-// The line of the row at a, what it says compared with `state`: `written` says that there is one, `moved` that the return register's rule changed.
+// The line of the row at a, its rules compared with `rules`: `changed` says that the CFA changed, `moved` that the return register's rule did.
 fn put_line(
     out: &mut [u8],
     at: usize,
     body: &[u32],
     a: usize,
     fde: Fde,
-    state: RowState,
-    written: bool,
+    changed: bool,
+    rules: RuleCache,
     moved: bool,
 ) -> usize
-    requires { ⌜ (a < 2 ^ 19) × (getD (now body) (a + 8) 0 ≤ 64) × (state .rules .count + fresh (lookup (state .rules)) (rowAt (now body) a .rules) ≤ 64) × T (once (registers (rowAt (now body) a .rules))) ⌝ }
-    ensures { λ r. ⌜ Put (now (out .entry)) at (cond written (lineBytes fde (wide (now (body .entry)) a) (ranOf fde (cfaOf state) (lookup (state .rules)) (rowAt (now (body .entry)) a)) moved) []) (now (out .exit)) r ⌝ }
+    requires { ⌜ (a < 2 ^ 19) × (getD (now body) (a + 8) 0 ≤ 64) × (rules .count + fresh (lookup rules) (rowAt (now body) a .rules) ≤ 64) × T (once (registers (rowAt (now body) a .rules))) ⌝ }
+    ensures { λ r. ⌜ Put (now (out .entry)) at (lineBytes fde (wide (now (body .entry)) a) (ranParts fde changed (lookup rules) (rowAt (now (body .entry)) a)) moved) (now (out .exit)) r ⌝ }
 {
-    if !written {
-        return at;
-    }
     let start = word64(body, a);
     let cfa = cfa_at(body, a);
-    let n = word(body, a + 8) as usize;
-    let changed = state.cfa_differs(cfa);
+    let n = word(body, a + RULE_COUNT_AT) as usize;
     let p = put_start(out, at, fde, start);
     let p = write_cfa_rule(out, p, fde.family, cfa, changed);
-    let p = put_rules(out, p, body, a + 9, n, fde.family, fde.ra, state.rules);
+    let p = put_rules(out, p, body, a + RULES_AT, n, fde.family, fde.ra, rules);
     let p = put_default(out, p, fde, start, moved);
     put_byte(out, p, b'\n')
 }
@@ -557,11 +632,25 @@ fn put_row(out: &mut [u8], at: usize, body: &[u32], a: usize, fde: Fde, state: R
     ensures writes { λ r. ⌜ Put (now (out .entry)) at (ranRow fde (cfaOf state) (lookup (state .rules)) (rowAt (now (body .entry)) a)) (now (out .exit)) (r .at) ⌝ }
     ensures goes { λ r. ⌜ After state (rowAt (now (body .entry)) a) (r .state) ⌝ }
 {
-    let n = word(body, a + 8) as usize;
+    let n = word(body, a + RULE_COUNT_AT) as usize;
     let cfa = cfa_at(body, a);
-    let already = cfa_written(fde.family, cfa, state.cfa_differs(cfa));
-    let scan = scan_rules(body, a + 9, n, fde.family, fde.ra, state.rules, already);
-    let p = put_line(out, at, body, a, fde, state, scan.written, scan.ra_written);
+    let last = state.cfa;
+    let changed = cfa_differs(state.cfa_seen, last, cfa);
+    let already = cfa_written(fde.family, cfa, changed);
+    let scan = scan_rules(
+        body,
+        a + RULES_AT,
+        n,
+        fde.family,
+        fde.ra,
+        state.rules,
+        already,
+    );
+    let mut p = at;
+    if scan.written {
+        let before = state.rules;
+        p = put_line(out, at, body, a, fde, changed, before, scan.ra_written);
+    }
     let rules = scan.rules;
     let state = RowState {
         cfa_seen: true,
@@ -595,13 +684,13 @@ fn put_rows(out: &mut [u8], at: usize, body: &[u32], fde: Fde) -> usize
 {
     let mut p = at;
     let mut state = start_state();
-    let mut a: usize = ROWS;
-    let mut m = word(body, 6) as usize;
+    let mut a: usize = ROWS_AT;
+    let mut m = word(body, ROW_COUNT_AT) as usize;
     while 0 < m {
         let placed = put_row(out, p, body, a, fde, state);
         p = placed.at;
         state = placed.state;
-        a = a + 9 + 4 * word(body, a + 8) as usize;
+        a = a + RULES_AT + RULE_WORDS * word(body, a + RULE_COUNT_AT) as usize;
         m -= 1;
     }
     p
@@ -613,11 +702,11 @@ fn last_end(body: &[u32]) -> u64
     ensures { λ r. ⌜ r ≡ lastEnd 0 (rows (now (body .entry))) ⌝ }
 {
     let mut end: u64 = 0;
-    let mut a: usize = ROWS;
-    let mut m = word(body, 6) as usize;
+    let mut a: usize = ROWS_AT;
+    let mut m = word(body, ROW_COUNT_AT) as usize;
     while 0 < m {
-        end = word64(body, a + 2);
-        a = a + 9 + 4 * word(body, a + 8) as usize;
+        end = word64(body, a + END_AT);
+        a = a + RULES_AT + RULE_WORDS * word(body, a + RULE_COUNT_AT) as usize;
         m -= 1;
     }
     end
@@ -628,14 +717,14 @@ fn any_below(body: &[u32], first: u64, load: u64) -> bool
     requires { ⌜ T (dwarfLayout (now body)) ⌝ }
     ensures { λ r. ⌜ r ≡ anyBelow first load (rows (now (body .entry))) ⌝ }
 {
-    let mut a: usize = ROWS;
-    let mut m = word(body, 6) as usize;
+    let mut a: usize = ROWS_AT;
+    let mut m = word(body, ROW_COUNT_AT) as usize;
     while 0 < m {
         let start = word64(body, a);
         if both(start != first, start < load) {
             return true;
         }
-        a = a + 9 + 4 * word(body, a + 8) as usize;
+        a = a + RULES_AT + RULE_WORDS * word(body, a + RULE_COUNT_AT) as usize;
         m -= 1;
     }
     false
@@ -644,19 +733,19 @@ fn any_below(body: &[u32], first: u64, load: u64) -> bool
 fn first_start(body: &[u32]) -> u64
     ensures { λ r. ⌜ r ≡ firstStart (rows (now (body .entry))) ⌝ }
 {
-    if word(body, 6) == 0 {
+    if word(body, ROW_COUNT_AT) == 0 {
         return 0;
     }
-    word64(body, ROWS)
+    word64(body, ROWS_AT)
 }
 
 fn fde_of(body: &[u32]) -> Fde
     requires { ⌜ T (dwarfLayout (now body)) ⌝ }
     ensures { λ r. ⌜ r ≡ fdeOf (now (body .entry)) ⌝ }
 {
-    let family = word(body, 0);
-    let ra = word(body, 5);
-    let load = word64(body, 3);
+    let family = word(body, FAMILY_AT);
+    let ra = word(body, RETURN_REGISTER_AT);
+    let load = word64(body, LOAD_ADDRESS_AT);
     let start = first_start(body);
     let length = less(last_end(body), start);
     Fde {
@@ -673,10 +762,10 @@ fn fde_of(body: &[u32]) -> Fde
 fn kind_fits(kind: u32, value: u64) -> bool
     ensures { λ r. ⌜ r ≡ cond (eqb kind 3) (ltb value 65536) (leb kind 4) ⌝ }
 {
-    if kind == 3 {
+    if kind == REGISTER {
         return value < REGISTER_VALUES;
     }
-    kind <= 4
+    kind <= OTHER
 }
 
 fn rule_fits(body: &[u32], a: usize) -> bool
@@ -686,8 +775,8 @@ fn rule_fits(body: &[u32], a: usize) -> bool
     if REGISTERS <= word(body, a) {
         return false;
     }
-    let kind = word(body, a + 1);
-    kind_fits(kind, word64(body, a + 2))
+    let kind = word(body, a + KIND_AT);
+    kind_fits(kind, word64(body, a + VALUE_AT))
 }
 
 fn rules_fit(body: &[u32], from: usize, n: usize) -> bool
@@ -700,7 +789,7 @@ fn rules_fit(body: &[u32], from: usize, n: usize) -> bool
         if !rule_fits(body, a) {
             return false;
         }
-        a += 4;
+        a += RULE_WORDS;
         k -= 1;
     }
     true
@@ -717,7 +806,7 @@ fn names_register(body: &[u32], from: usize, n: usize, register: u32) -> bool
         if word(body, a) == register {
             return true;
         }
-        a += 4;
+        a += RULE_WORDS;
         k -= 1;
     }
     false
@@ -732,7 +821,7 @@ fn named_once(body: &[u32], from: usize, n: usize) -> bool
     let mut k = n;
     while 0 < k {
         let register = word(body, a);
-        a += 4;
+        a += RULE_WORDS;
         k -= 1;
         if names_register(body, a, k, register) {
             return false;
@@ -744,77 +833,92 @@ fn named_once(body: &[u32], from: usize, n: usize) -> bool
 fn cfa_fits(kind: u32, register: u32) -> bool
     ensures { λ r. ⌜ r ≡ cond (eqb kind 0) (ltb register 65536) (eqb kind 1) ⌝ }
 {
-    if kind == 0 {
+    if kind == CFA_REGISTER {
         return register < REGISTERS;
     }
-    kind == 1
+    kind == CFA_EXPRESSION
 }
 
 fn row_fits(body: &[u32], a: usize) -> bool
     requires { ⌜ a < 2 ^ 19 ⌝ }
     ensures { λ r. ⌜ r ≡ rowFits (now (body .entry)) a ⌝ }
 {
-    if !cfa_fits(word(body, a + 4), word(body, a + 5)) {
+    if !cfa_fits(word(body, a + CFA_KIND_AT), word(body, a + CFA_REGISTER_AT)) {
         return false;
     }
-    let n = word(body, a + 8);
-    if 64 < n {
+    let n = word(body, a + RULE_COUNT_AT);
+    if MOST_RULES < n {
         return false;
     }
-    if !rules_fit(body, a + 9, n as usize) {
+    if !rules_fit(body, a + RULES_AT, n as usize) {
         return false;
     }
-    named_once(body, a + 9, n as usize)
+    named_once(body, a + RULES_AT, n as usize)
 }
 
 fn rows_fit(body: &[u32]) -> bool
     requires { ⌜ getD (now body) 6 0 ≤ 1024 ⌝ }
     ensures { λ r. ⌜ r ≡ rowsFit (now (body .entry)) (getD (now (body .entry)) 6 0) 7 ⌝ }
 {
-    let mut a: usize = ROWS;
-    let mut m = word(body, 6) as usize;
+    let mut a: usize = ROWS_AT;
+    let mut m = word(body, ROW_COUNT_AT) as usize;
     while 0 < m {
         if !row_fits(body, a) {
             return false;
         }
-        a = a + 9 + 4 * word(body, a + 8) as usize;
+        a = a + RULES_AT + RULE_WORDS * word(body, a + RULE_COUNT_AT) as usize;
         m -= 1;
     }
     a == body.len()
 }
 
-// Registers met: their rules last seen, and whether there were more than 64.
+// Registers met, with their count.
+pub struct Registers {
+    pub number: [u32; 64],
+    pub count: usize,
+}
+
+impl Registers {
+    fn start() -> Registers
+        ensures { λ c. ⌜ c .count ≡ 0 ⌝ }
+    {
+        Registers {
+            number: [0; 64],
+            count: 0,
+        }
+    }
+}
+
+// The registers met, and whether there were more than 64.
 pub struct Met {
-    pub rules: RuleCache,
+    pub registers: Registers,
     pub over: bool,
 }
 
-fn meet_rules(body: &[u32], from: usize, n: usize, rules: RuleCache) -> Met
-    requires { ⌜ (from < 2 ^ 20) × (n ≤ 64) × (rules .count ≤ 64) ⌝ }
-    ensures { λ r. ⌜ Known rules (rulesFrom (now (body .entry)) n from) r ⌝ }
+fn meet_rules(body: &[u32], from: usize, n: usize, before: Registers) -> Met
+    requires { ⌜ (from < 2 ^ 20) × (n ≤ 64) × (before .count ≤ 64) ⌝ }
+    ensures { λ r. ⌜ Known before (registers (rulesFrom (now (body .entry)) n from)) r ⌝ }
 {
-    let mut seen = rules;
+    let mut met = before;
     let mut a = from;
     let mut k = n;
     while 0 < k {
-        let rule = rule_at(body, a);
-        let held = seen.count;
-        let q = place(&seen.register, held, rule.register);
+        let register = word(body, a);
+        let held = met.count;
+        let q = place(&met.number, held, register);
         if MOST_REGISTERS <= q {
             return Met {
-                rules: seen,
+                registers: met,
                 over: true,
             };
         }
-        seen.register[q] = rule.register;
-        seen.kind[q] = rule.kind;
-        seen.value[q] = rule.value;
-        seen.count = count_behind(held, q);
-        a += 4;
+        met.number[q] = register;
+        met.count = count_behind(held, q);
+        a += RULE_WORDS;
         k -= 1;
     }
     Met {
-        rules: seen,
+        registers: met,
         over: false,
     }
 }
@@ -824,17 +928,17 @@ fn registers_fit(body: &[u32]) -> bool
     requires { ⌜ (getD (now body) 6 0 ≤ 1024) × T (rowsFit (now body) (getD (now body) 6 0) 7) ⌝ }
     ensures { λ r. ⌜ r ≡ leb (distinct [] (registers (rulesOf (rows (now (body .entry)))))) 64 ⌝ }
 {
-    let mut rules = RuleCache::start();
-    let mut a: usize = ROWS;
-    let mut m = word(body, 6) as usize;
+    let mut registers = Registers::start();
+    let mut a: usize = ROWS_AT;
+    let mut m = word(body, ROW_COUNT_AT) as usize;
     while 0 < m {
-        let n = word(body, a + 8) as usize;
-        let met = meet_rules(body, a + 9, n, rules);
+        let n = word(body, a + RULE_COUNT_AT) as usize;
+        let met = meet_rules(body, a + RULES_AT, n, registers);
         if met.over {
             return false;
         }
-        rules = met.rules;
-        a = a + 9 + 4 * n;
+        registers = met.registers;
+        a = a + RULES_AT + RULE_WORDS * n;
         m -= 1;
     }
     true
@@ -843,13 +947,13 @@ fn registers_fit(body: &[u32]) -> bool
 fn head_fits(body: &[u32]) -> bool
     ensures { λ r. ⌜ r ≡ headFits (now (body .entry)) ⌝ }
 {
-    if 10 < word(body, 0) {
+    if MOST_FAMILY < word(body, FAMILY_AT) {
         return false;
     }
-    if REGISTERS <= word(body, 5) {
+    if REGISTERS <= word(body, RETURN_REGISTER_AT) {
         return false;
     }
-    word(body, 6) <= 1024
+    word(body, ROW_COUNT_AT) <= MOST_ROWS
 }
 
 // Refusal 4 does not apply: ranges, and exactly the words that the counts demand.
@@ -862,7 +966,9 @@ fn layout(body: &[u32]) -> bool
     if !rows_fit(body) {
         return false;
     }
-    if body.len() <= FEW_WORDS {
+    // With so few words behind the rows' own there are at most 64 rules.
+    let rows = word(body, ROW_COUNT_AT) as usize;
+    if body.len() <= FEW_WORDS + RULES_AT * rows {
         return true;
     }
     registers_fit(body)
@@ -873,13 +979,13 @@ fn layout(body: &[u32]) -> bool
 fn skipped(body: &[u32]) -> bool
     ensures { λ r. ⌜ r ≡ dwarfSkipped (now (body .entry)) ⌝ }
 {
-    if word64(body, 1) == ALL_ONES {
+    if word64(body, INITIAL_ADDRESS_AT) == ALL_ONES {
         return true;
     }
-    if word(body, 6) == 0 {
+    if word(body, ROW_COUNT_AT) == 0 {
         return true;
     }
-    first_start(body) < word64(body, 3)
+    first_start(body) < word64(body, LOAD_ADDRESS_AT)
 }
 
 // Refusal 6; 0: none.
@@ -891,7 +997,7 @@ fn reach(body: &[u32]) -> u32
     if last_end(body) < first {
         return 6;
     }
-    if any_below(body, first, word64(body, 3)) {
+    if any_below(body, first, word64(body, LOAD_ADDRESS_AT)) {
         return 6;
     }
     0
