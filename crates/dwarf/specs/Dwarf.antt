@@ -174,15 +174,13 @@ unfoldable pub anyBelow : ℕ → ℕ → List Row → Bool
 anyBelow first load [] = false
 anyBelow first load (w ∷ ws) = (not (eqb (w .start) first) && ltb (w .start) load) || anyBelow first load ws
 
--- last end below first start, or such a row
-unfoldable pub dwarfReach : List ℕ → ℕ
-dwarfReach ws =
-    cond (ltb (lastEnd 0 (rows ws)) (firstStart (rows ws)) || anyBelow (firstStart (rows ws)) (loadAddress ws) (rows ws)) 6 0
+-- the last end is not below the first start, and there is no such row
+unfoldable pub dwarfReach : List ℕ → Bool
+dwarfReach ws = not (ltb (lastEnd 0 (rows ws)) (firstStart (rows ws)) || anyBelow (firstStart (rows ws)) (loadAddress ws) (rows ws))
 
 -- 4, skipping, then 6
 unfoldable pub dwarfJudged : List ℕ → Judged
-dwarfJudged ws =
-    cond (dwarfLayout ws) (cond (dwarfSkipped ws) Skip (cond (eqb (dwarfReach ws) 0) Write (Refuse (dwarfReach ws)))) (Refuse 4)
+dwarfJudged ws = cond (dwarfLayout ws) (cond (dwarfSkipped ws) Skip (cond (dwarfReach ws) Write (Refuse 6))) (Refuse 4)
 
 -- ---- what a rule and a CFA write, in bytes: none where a name lacks. An empty name is none.
 

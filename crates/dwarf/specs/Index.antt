@@ -175,7 +175,7 @@ fresh-free c x xs h = fresh-same x (remember c x) c xs (λ q k. rw k) (once-free
 
 pub written : (ws : List ℕ) → dwarfJudged ws ≡ Write → T (dwarfLayout ws)
 unfolding dwarfJudged
-written ws h = let w = only-written (dwarfLayout ws) (dwarfSkipped ws) (eqb (dwarfReach ws) 0) (dwarfReach ws) h in w .0
+written ws h = let w = only-written (dwarfLayout ws) (dwarfSkipped ws) (dwarfReach ws) 6 h in w .0
 
 -- ---- the first row's start
 

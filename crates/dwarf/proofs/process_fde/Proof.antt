@@ -36,7 +36,10 @@ same-length c = search needs
 
 returns-3 : tie.Need-returns-3
 unfolding dwarfEntry
-returns-3 c = rw (← c .before .before .before .before .before .before .judge .ensures, c .before .before .before .before .enum-told2 .given .1) (record { number-is = refl; next-is = refl; put = c .before .before .put-entry .ensures })
+returns-3 c =
+    let before-4 = c .before .before .before .before in
+    let before-6 = before-4 .before .before in
+    rw (← before-6 .judge .ensures, before-4 .enum-told2 .given .1) (record { number-is = refl; next-is = refl; put = c .before .before .put-entry .ensures })
 
 pub process-fde-spec : {M : Type 1} → statement M
 process-fde-spec =

@@ -4,7 +4,7 @@ use Prim.Native.Nat.{ℕ, zero, suc, _+_, _-_}
 use mathlib.Core.Bool.{Bool, true, false, not, cond, _&&_, _||_}
 use mathlib.Core.List.{List, [], _∷_, _++_, append-assoc, append-nil}
 use lib.IntN.{ℤ}
-use borrow.Author.Tests.{eqb-false}
+use native.Mathlib.Omega.{arith}
 use lib.Dec.{T, eqb, leb}
 use Rattle.text.specs.Text.{ascii}
 use Rattle.text.specs.Digits.{hex, signed}
@@ -267,7 +267,7 @@ dwarf-text b h = sym (rows-ran b [] noCfa nothingSeen (rows b) refl refl (rows-o
 
 pub dwarf-accepted : (last : Last) (b : List ℕ) → dwarfEntry last b .number ≡ 0 → Accepted (dwarfLayout b) (dwarfSkipped b) (dwarfJudged b) (dwarfText b) last last
 unfolding dwarfEntry dwarfJudged
-dwarf-accepted last b = accepted (dwarfLayout b) (dwarfSkipped b) (eqb (dwarfReach b) 0) (dwarfReach b) (dwarfText b) last last (eqb-false (dwarfReach b) 0)
+dwarf-accepted last b = accepted (dwarfLayout b) (dwarfSkipped b) (dwarfReach b) 6 (dwarfText b) last last (λ e z. omega arith)
 
 pub dwarf-entry-text : (last : Last) (b : List ℕ) → dwarfEntry last b .number ≡ 0 → dwarfEntry last b .text ≡ render false (cond (dwarfSkipped b) [] (dwarfLines b))
 unfolding dwarfEntry

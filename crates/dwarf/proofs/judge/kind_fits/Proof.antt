@@ -1,0 +1,13 @@
+-- `kind_fits`: each return is a test of the definition.
+use borrow.Author.Tests.{eq-eqb, ne-eqb}
+use Rattle.dwarf.proofs.judge.kind_fits.Statement.{statement}
+use Rattle.dwarf.proofs.judge.kind_fits.Tie as tie
+
+returns : tie.Need-returns
+returns c = rw (eq-eqb (c .before .args .kind) 3 (c .if1 .taken))
+
+returns-2 : tie.Need-returns-2
+returns-2 c = rw (ne-eqb (c .before .args .kind) 3 (c .if1 .left))
+
+pub kind-fits-spec : {M : Type 1} → statement M
+kind-fits-spec = tie.close (tie.spec returns returns-2)

@@ -1,0 +1,42 @@
+-- `format_cfa`: written for kind 0 with a name.
+use mathlib.Core.Path.{ap, _∙_}
+use mathlib.Core.Bool.{cond, _&&_}
+use mathlib.Core.List.{[], _++_}
+use lib.IntN.{ℤ}
+use lib.Dec.{eqb}
+use mir.Syntax.{w64}
+use mir.Val.{SFits}
+use mir.Facts.{toZ-ofZ}
+use Rattle.text.specs.Text.{ascii}
+use Rattle.text.specs.Digits.{signed}
+use Rattle.names.specs.Names.{cfiName}
+use Rattle.lines.specs.Lines.{formText, ruleText}
+use Rattle.lines.specs.Rules.{ruleOf, ruleName, regName, formOf}
+use Rattle.dwarf.specs.Dwarf.{any, cfaBytes}
+use Rattle.dwarf.specs.Cache.{formatted}
+use borrow.Author.Needs.{needs}
+use Rattle.dwarf.proofs.write.format_cfa.Statement.{statement}
+use Rattle.dwarf.proofs.write.format_cfa.Tie as tie
+
+has-name-requires : tie.Need-has-name-requires
+has-name-requires c κs = search needs
+
+both-requires : tie.Need-both-requires
+both-requires c κs = search needs
+
+signed-of-requires : tie.Need-signed-of-requires
+signed-of-requires c κs = search needs
+
+returns : tie.Need-returns
+unfolding cfaBytes formatted ruleText formText ruleOf ruleName regName formOf
+returns c =
+    let before-3 = c .before .before .before in
+    let before-4 = before-3 .before in
+    let a = before-4 .args in
+    let f : SFits w64 (c .signed-of .result) = search needs in
+    rw (c .before .both .ensures, before-3 .has-name .ensures)
+    (ap (λ (z : ℤ). cond (eqb (a .cfa .kind) 0 && any (cfiName (a .family) (a .cfa .register)))
+    (ascii " .cfa: " ++ cfiName (a .family) (a .cfa .register) ++ (ascii " " ++ signed z ++ ascii " +")) []) (toZ-ofZ f ∙ c .signed-of .ensures))
+
+pub format-cfa-spec : {M : Type 1} → statement M
+format-cfa-spec = tie.close (tie.spec has-name-requires both-requires signed-of-requires returns)
