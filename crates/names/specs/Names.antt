@@ -1,14 +1,13 @@
 -- Register names (document 01, Names): the six tables of symbolic-cfi entry for entry, and the PE x64 names in Microsoft's numbering.
 -- An empty or missing entry is no name.
-use Prim.Native.Nat.{ℕ, _≤_}
-use mathlib.Core.Path.{_≡_}
+use Prim.Native.Nat.{ℕ}
 use mathlib.Core.Bool.{cond}
 use mathlib.Core.List.{List, [], _∷_, _++_}
-use lib.ListN.{getD, length, take}
+use lib.ListN.{getD, take}
 use lib.Dec.{eqb}
 use Rattle.text.specs.Text.{ascii}
 use Rattle.text.specs.Digits.{decimal}
-use Rattle.names.specs.declared.RegisterName.{RegisterName}
+use Rattle.names.specs.declared.Name.{Name}
 
 -- x86, by DWARF register number
 unfoldable pub i386 : List (List ℕ)
@@ -128,8 +127,6 @@ letterOf l = cond (eqb l 0) (ascii "x") (cond (eqb l 1) (ascii "d") (ascii "q"))
 unfoldable pub arm64Name : ℕ → ℕ → List ℕ
 arm64Name l register = ascii "." ++ letterOf l ++ decimal register
 
--- the code's name, fixed bytes with a length, is this name; of length 0 it is no name
-pub record Holds (name : List ℕ) (r : RegisterName) : Type 0 where
-  pub text : take (r .len) (r .bytes) ≡ name
-  pub size : r .len ≡ length name
-  pub fits : r .len ≤ 8
+-- the code's name, fixed bytes with a length; of length 0 it is no name
+unfoldable pub nameText : Name → List ℕ
+nameText n = take (n .len) (n .bytes)

@@ -1,3 +1,4 @@
 pub mod Tests
+pub mod Bits
 pub mod Text
 pub mod Digits

@@ -1,7 +1,7 @@
 -- What every writer's contract says: which bytes now stand in the lent slice, and where the next ones go.
 use mathlib.Core.Path.{_≡_}
 use mathlib.Core.List.{List, [], _∷_, _++_}
-use Prim.Native.Nat.{ℕ, _+_, _-_, _^_, _≤_, min}
+use Prim.Native.Nat.{ℕ, zero, suc, _+_, _-_, _/_, _%_, _^_, _≤_, min}
 use Prim.Native.Char.{code}
 use Prim.Native.String.{String, [] as nil, _∷_ as _▹_}
 use lib.ListN.{length}
@@ -29,3 +29,13 @@ pub record Left (d : List ℕ) (at : ℕ) (t d₁ : List ℕ) (p : ℕ) (u : Lis
   pub done : List ℕ
   pub put : Put d at done d₁ p
   pub rest : done ++ u ≡ t
+
+-- a packed name, the first byte lowest: at most n bytes, up to where nothing is left
+unfoldable pub unpackIn : ℕ → ℕ → List ℕ
+unpackIn zero m = []
+unpackIn (suc n) zero = []
+unpackIn (suc n) (suc m) = suc m % 256 ∷ unpackIn n (suc m / 256)
+
+-- the name in a u64
+unfoldable pub unpack : ℕ → List ℕ
+unpack m = unpackIn 8 m

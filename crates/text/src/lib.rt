@@ -6,7 +6,7 @@ ghost use mathlib.Core.List.{[], _∷_};
 ghost use Prim.Native.Nat.{_<_, _≤_};
 ghost use lib.ListN.{length};
 ghost use lib.IntN.{natAbs};
-ghost use Rattle.text.specs.Text.{Put};
+ghost use Rattle.text.specs.Text.{Put, unpack};
 ghost use Rattle.text.specs.Digits.{digit, digits, hex, decimal, signed};
 
 const LARGEST: usize = 0xffff_ffff_ffff_ffff;
@@ -111,16 +111,90 @@ fn put_digits_fitting(out: &mut [u8], at: usize, x: u64, base: u64) -> usize
     put_byte(out, p, digit_of(x % base))
 }
 
+fn hex_digit(n: u64) -> u8
+    requires { ⌜ n < 16 ⌝ }
+    ensures { λ r. ⌜ r ≡ digit n ⌝ }
+{
+    match n {
+        0 => b'0',
+        1 => b'1',
+        2 => b'2',
+        3 => b'3',
+        4 => b'4',
+        5 => b'5',
+        6 => b'6',
+        7 => b'7',
+        8 => b'8',
+        9 => b'9',
+        10 => b'a',
+        11 => b'b',
+        12 => b'c',
+        13 => b'd',
+        14 => b'e',
+        _ => b'f',
+    }
+}
+
+// Four bits make a digit; 0 has one.
+fn hex_count(x: u64) -> usize
+    ensures { λ r. ⌜ r ≡ length (hex x) ⌝ }
+{
+    if x < 16 {
+        return 1;
+    }
+    (67 - u64::leading_zeros(x) as usize) / 4
+}
+
+// Where all digits fit they are stored from the last one back.
 pub fn put_hex(out: &mut [u8], at: usize, x: u64) -> usize
     ensures { λ r. ⌜ Put (now (out .entry)) at (hex x) (now (out .exit)) r ⌝ }
 {
-    put_digits(out, at, x, 16)
+    let n = hex_count(x);
+    if at <= out.len() {
+        if n <= out.len() - at {
+            let mut v = x;
+            let mut k = n;
+            while 0 < k {
+                k -= 1;
+                out[at + k] = hex_digit(v % 16);
+                v = v / 16;
+            }
+            return at + n;
+        }
+    }
+    put_digits_fitting(out, at, x, 16)
 }
 
+// Most numbers have few digits.
 pub fn put_decimal(out: &mut [u8], at: usize, x: u64) -> usize
     ensures { λ r. ⌜ Put (now (out .entry)) at (decimal x) (now (out .exit)) r ⌝ }
 {
+    if x < 10 {
+        return put_byte(out, at, digit_of(x));
+    }
+    if x < 100 {
+        let p = put_byte(out, at, digit_of(x / 10));
+        return put_byte(out, p, digit_of(x % 10));
+    }
+    if x < 1000 {
+        let p = put_byte(out, at, digit_of(x / 10 / 10));
+        let p = put_byte(out, p, digit_of(x / 10 % 10));
+        return put_byte(out, p, digit_of(x % 10));
+    }
     put_digits(out, at, x, 10)
+}
+
+// A packed name: its bytes from the lowest on, up to where nothing is left.
+pub fn put_mark(out: &mut [u8], at: usize, mark: u64) -> usize
+    ensures { λ r. ⌜ Put (now (out .entry)) at (unpack mark) (now (out .exit)) r ⌝ }
+{
+    let mut p = at;
+    let mut w = mark;
+    while 0 < w {
+        p = put_byte(out, p, (w % 256) as u8);
+        w = w / 256;
+    }
+    p
 }
 
 // How far `x` is from 0; -2^63 has no opposite in an i64, so 1 is added before the sign is turned.

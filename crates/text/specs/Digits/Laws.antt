@@ -8,11 +8,13 @@ use mathlib.Core.Bool.{Bool, true, false, not, _&&_, _||_}
 use mathlib.Core.List.{List, [], _∷_, _++_}
 use lib.ListN.{length, length-append}
 use lib.Dec.{T, leb, eqb}
+use lib.Count.{leadingZeros, leading-top}
 use lib.Signed.{ltZ}
 use borrow.Author.Tests.{ltb-true, lt-ltb, le-ltb}
 use lib.IntN.{ℤ, pos, negsuc, natAbs}
 use Rattle.text.specs.Text.{ascii, Put}
 use Rattle.text.specs.Text.Laws.{_⨾_}
+use Rattle.text.specs.Bits.{width}
 use Rattle.text.specs.Tests.{is-false, all, all-append, tests, at, both, and-l}
 use Rattle.text.specs.Digits.{digit, digitsIn, digits, hex, decimal, signed, undigit, value, readHex, readDecimal, readSigned, Digits·open}
 
@@ -158,6 +160,16 @@ hex-length n h = digits-length 16 15 n (omega arith) h
 pub decimal-length : (n : ℕ) → n < 2 ^ 64 → length (decimal n) ≤ 20
 unfolding decimal
 decimal-length n h = digits-length 10 19 n (omega arith) (omega arith)
+
+-- how many, by the highest bit
+pub hex-count : (n : ℕ) → 16 ≤ n → n < 2 ^ 64 → length (hex n) ≡ (67 - leadingZeros 64 n) / 4
+unfolding hex
+hex-count n h k =
+    let t = leading-top 64 n (omega arith) k in
+    width (λ m. length (digits 16 m)) 4 (2 ^ 64) (omega arith) (λ m p l. ap length (digits-one 16 m l)) more (t .0) n (t .2) (t .3) k ∙ omega (arith, t .1)
+  where
+    more : (m : ℕ) → 2 ^ 4 ≤ m → m < 2 ^ 64 → length (digits 16 m) ≡ suc (length (digits 16 (m / 2 ^ 4)))
+    more m l f = ap length (digits-more 16 m (omega arith) l) ∙ length-append (digits 16 (m / 16)) (digit (m % 16) ∷ []) ∙ omega arith
 
 -- ---- with a sign
 

@@ -1,12 +1,15 @@
 -- Laws of `Put` and `Left`: texts put one after the other are one text put; what a caller makes of it.
 use mathlib.Core.Path.{_≡_, refl, sym, ap, _∙_, subst}
 use mathlib.Core.List.{List, [], _∷_, _++_, append-assoc, append-nil}
-use Prim.Native.Nat.{ℕ, suc, _+_, _-_, _≤_, _<_, min}
+use Prim.Native.Nat.{ℕ, zero, suc, _+_, _-_, _*_, _/_, _%_, _^_, _≤_, _<_, min}
+use native.Mathlib.Nat.{div-lt-iff-lt-mul, pow-suc}
 use native.Mathlib.Omega.{arith}
 use native.Mathlib.Decide.{decLe}
 use lib.ListN.{length, take, drop, set, length-append}
 use lib.Seq.{sets, set-out, length-sets, sets-eq, take-append-seam}
-use Rattle.text.specs.Text.{MAX, Put, Left}
+use lib.Count.{leadingZeros, leading-of-zero, leading-top}
+use Rattle.text.specs.Bits.{width}
+use Rattle.text.specs.Text.{MAX, Put, Left, unpackIn, unpack}
 
 -- ---- stores into a list
 
@@ -83,3 +86,39 @@ left-as {d} {t} {d₁} {u} {v} {at} {p} l e = subst (λ (w : List ℕ). Left d a
 
 pub left-none : {d t d₁ : List ℕ} {at p : ℕ} → Left d at t d₁ p [] → Put d at t d₁ p
 left-none l = put-as (l .put) (sym (append-nil (l .done)) ∙ l .rest)
+
+-- ---- packed names
+
+unpack-step : (n m : ℕ) → 0 < m → unpackIn (suc n) m ≡ m % 256 ∷ unpackIn n (m / 256)
+unfolding unpackIn
+unpack-step n zero h = absurd (omega arith)
+unpack-step n (suc m) h = refl
+
+-- where nothing is left, room for another byte does not matter
+unpack-room : (n m : ℕ) → m < 256 ^ n → unpackIn (suc n) m ≡ unpackIn n m
+unfolding unpackIn
+unpack-room zero zero h = refl
+unpack-room zero (suc m) h = absurd (omega arith)
+unpack-room (suc n) zero h = refl
+unpack-room (suc n) (suc m) h = ap (λ (bs : List ℕ). suc m % 256 ∷ bs) (unpack-room n (suc m / 256) (div-lt-iff-lt-mul (omega arith) .1 (rw (← pow-suc 256 n) h)))
+
+pub unpack-more : (m : ℕ) → 0 < m → m < 2 ^ 64 → unpack m ≡ m % 256 ∷ unpack (m / 256)
+unfolding unpack
+unpack-more m h k = unpack-step 7 m h ∙ ap (λ (bs : List ℕ). m % 256 ∷ bs) (sym (unpack-room 7 (m / 256) (omega arith)))
+
+pub unpack-none : unpack 0 ≡ []
+unfolding unpack unpackIn
+unpack-none = refl
+
+-- a name's length, by the highest bit
+pub unpack-length : (m : ℕ) → m < 2 ^ 64 → length (unpack m) ≡ 8 - leadingZeros 64 m / 8
+unpack-length zero h = rw (unpack-none, leading-of-zero 64)
+unpack-length (suc m) h =
+    let t = leading-top 64 (suc m) (omega arith) h in
+    width (λ n. length (unpack n)) 8 (2 ^ 64) (omega arith) one more (t .0) (suc m) (t .2) (t .3) h ∙ omega (arith, t .1)
+  where
+    one : (n : ℕ) → 0 < n → n < 2 ^ 8 → length (unpack n) ≡ 1
+    one n p l = let e : n / 256 ≡ 0 = omega arith in ap length (unpack-more n p (omega arith)) ∙ rw (e, unpack-none)
+
+    more : (n : ℕ) → 2 ^ 8 ≤ n → n < 2 ^ 64 → length (unpack n) ≡ suc (length (unpack (n / 2 ^ 8)))
+    more n l k = ap length (unpack-more n (omega arith) k)

@@ -1,0 +1,53 @@
+-- `arm64_register_name`: by the number of digits.
+use Rattle.names.specs.Names.{nameText, arm64Name}
+use Rattle.names.proofs.Marks.{one-digit, two-digits, three-digits}
+use native.Mathlib.Omega.{arith}
+use borrow.Author.Needs.{needs}
+use Rattle.names.proofs.arm64_register_name.Statement.{statement}
+use Rattle.names.proofs.arm64_register_name.Tie as tie
+
+letter-byte-requires : tie.Need-letter-byte-requires
+letter-byte-requires c κs = search needs
+
+decimal-digit-requires : tie.Need-decimal-digit-requires
+decimal-digit-requires c κs = search needs
+
+returns : tie.Need-returns
+unfolding nameText arm64Name
+returns c = one-digit (c .before .before .before .args .register) (c .before .before .letter-byte .ensures) (c .decimal-digit .ensures) (omega arith)
+
+decimal-digit-requires-2 : tie.Need-decimal-digit-requires-2
+decimal-digit-requires-2 c κs = search needs
+
+decimal-digit-requires-3 : tie.Need-decimal-digit-requires-3
+decimal-digit-requires-3 c κs = search needs
+
+returns-2 : tie.Need-returns-2
+unfolding nameText arm64Name
+returns-2 c =
+    two-digits (c .before .before .before .before .before .args .register) (c .before .before .before .before .letter-byte .ensures) (c .decimal-digit3 .ensures) (c .before .before .decimal-digit2 .ensures) (omega arith) (omega arith)
+
+decimal-digit-requires-4 : tie.Need-decimal-digit-requires-4
+decimal-digit-requires-4 c κs = search needs
+
+decimal-digit-requires-5 : tie.Need-decimal-digit-requires-5
+decimal-digit-requires-5 c κs = search needs
+
+returns-3 : tie.Need-returns-3
+unfolding nameText arm64Name
+returns-3 c =
+    three-digits (c .before .before .before .before .before .before .args .register) (c .before .before .before .before .before .letter-byte .ensures) (c .decimal-digit5 .ensures) (c .before .decimal-digit4 .ensures) (c .before .before .before .decimal-digit2 .ensures) (omega arith) (omega arith)
+
+pub arm64-register-name-spec : {M : Type 1} → statement M
+arm64-register-name-spec =
+    tie.close
+    (tie.spec
+    letter-byte-requires
+    decimal-digit-requires
+    returns
+    decimal-digit-requires-2
+    decimal-digit-requires-3
+    returns-2
+    decimal-digit-requires-4
+    decimal-digit-requires-5
+    returns-3)
