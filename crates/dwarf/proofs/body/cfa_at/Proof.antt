@@ -31,8 +31,12 @@ unfolding cfaAt
 returns c =
     let before-3 = c .before .before .before in
     let before-5 = before-3 .before .before in
-    rw (eq-eqb (word (before-5 .args .body .now) (before-5 .args .a + 4)) 0 (sym (before-3 .word .ensures) ∙ c .before .before .if1 .taken), before-3 .word .ensures,
-    c .before .word2 .ensures, c .word64 .ensures)
+    rw (
+      eq-eqb (word (before-5 .args .body .now) (before-5 .args .a + 4)) 0 (sym (before-3 .word .ensures) ∙ c .before .before .if1 .taken),
+      before-3 .word .ensures,
+      c .before .word2 .ensures,
+      c .word64 .ensures,
+    )
 
 returns-2 : tie.Need-returns-2
 unfolding cfaAt

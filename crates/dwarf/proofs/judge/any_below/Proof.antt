@@ -71,10 +71,12 @@ loop-again c =
     let before-3 = c .before .before .before in
     let before-5 = before-3 .before .before in
     let before-8 = before-5 .before .before .before in
-    rw (c .word2 .ensures) (rest-turn (before-5 .loop .inv .0) (search needs),
-    or-no (not (eqb (wide (before-8 .args .body .now) (before-5 .loop .a)) (before-8 .args .first)) && ltb (wide (before-8 .args .body .now) (before-5 .loop .a)) (before-8 .args .load)) _
-    (rw (← before-3 .word64 .ensures, ← c .before .before .both .ensures) (c .before .if1 .left))
-    ∙ sym (below-turn (before-8 .args .body .now) (before-8 .args .first) (before-8 .args .load) (before-5 .loop .a) (before-5 .loop .m) (search needs)) ∙ before-5 .loop .inv .1)
+    rw (c .word2 .ensures) (
+      rest-turn (before-5 .loop .inv .0) (search needs),
+      or-no (not (eqb (wide (before-8 .args .body .now) (before-5 .loop .a)) (before-8 .args .first)) && ltb (wide (before-8 .args .body .now) (before-5 .loop .a)) (before-8 .args .load)) _
+          (rw (← before-3 .word64 .ensures, ← c .before .before .both .ensures) (c .before .if1 .left))
+          ∙ sym (below-turn (before-8 .args .body .now) (before-8 .args .first) (before-8 .args .load) (before-5 .loop .a) (before-5 .loop .m) (search needs)) ∙ before-5 .loop .inv .1,
+    )
 
 returns-2 : tie.Need-returns-2 Inv-loop μ-loop
 unfolding rowsFrom anyBelow

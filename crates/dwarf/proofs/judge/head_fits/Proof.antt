@@ -32,8 +32,11 @@ unfolding headFits
 returns-3 c =
     let before-4 = c .before .before .before .before in
     let before-6 = before-4 .before .before in
-    rw (le-leb (word (before-6 .args .body .now) 0) 10 (omega (arith, before-4 .word .ensures)),
-    lt-ltb (word (before-6 .args .body .now) 5) 65536 (omega (arith, c .before .before .word2 .ensures)), c .word3 .ensures)
+    rw (
+      le-leb (word (before-6 .args .body .now) 0) 10 (omega (arith, before-4 .word .ensures)),
+      lt-ltb (word (before-6 .args .body .now) 5) 65536 (omega (arith, c .before .before .word2 .ensures)),
+      c .word3 .ensures,
+    )
 
 pub head-fits-spec : {M : Type 1} → statement M
 head-fits-spec =

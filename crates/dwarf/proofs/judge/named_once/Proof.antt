@@ -46,11 +46,14 @@ loop-less c = search needs
 loop-again : tie.Need-loop-again Inv-loop μ-loop
 loop-again c =
     let before-4 = c .before .before .before .before in
-    let before-6 = before-4 .before .before in
-    (omega arith, omega arith, and-yes (not (member (word (before-6 .args .body .now) (before-4 .loop .a))
-    (registers (rulesFrom (before-6 .args .body .now) (before-4 .loop .k - 1) (before-4 .loop .a + 4))))) _
-    (rw (← c .before .before .word .ensures) (ap not (sym (c .before .names-register .ensures) ∙ c .if1 .left)))
-    ∙ sym (once-turn (before-6 .args .body .now) (before-4 .loop .k) (before-4 .loop .a) (search needs)) ∙ before-4 .loop .inv .2)
+    let before-6 = before-4 .before .before in (
+      omega arith,
+      omega arith,
+      and-yes (not (member (word (before-6 .args .body .now) (before-4 .loop .a))
+          (registers (rulesFrom (before-6 .args .body .now) (before-4 .loop .k - 1) (before-4 .loop .a + 4))))) _
+          (rw (← c .before .before .word .ensures) (ap not (sym (c .before .names-register .ensures) ∙ c .if1 .left)))
+          ∙ sym (once-turn (before-6 .args .body .now) (before-4 .loop .k) (before-4 .loop .a) (search needs)) ∙ before-4 .loop .inv .2,
+    )
 
 returns-2 : tie.Need-returns-2 Inv-loop μ-loop
 unfolding rulesFrom registers once

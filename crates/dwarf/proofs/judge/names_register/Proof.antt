@@ -44,10 +44,12 @@ loop-less c = search needs
 loop-again : tie.Need-loop-again Inv-loop μ-loop
 loop-again c =
     let before-3 = c .before .before .before in
-    let before-5 = before-3 .before .before in
-    (omega arith, or-no (eqb (word (before-5 .args .body .now) (before-3 .loop .a)) (before-5 .args .register)) _
-    (ne-eqb (word (before-5 .args .body .now) (before-3 .loop .a)) (before-5 .args .register) (λ e. c .if1 .left (c .before .word .ensures ∙ e)))
-    ∙ sym (member-turn (before-5 .args .body .now) (before-5 .args .register) (before-3 .loop .k) (before-3 .loop .a) (search needs)) ∙ before-3 .loop .inv .1)
+    let before-5 = before-3 .before .before in (
+      omega arith,
+      or-no (eqb (word (before-5 .args .body .now) (before-3 .loop .a)) (before-5 .args .register)) _
+          (ne-eqb (word (before-5 .args .body .now) (before-3 .loop .a)) (before-5 .args .register) (λ e. c .if1 .left (c .before .word .ensures ∙ e)))
+          ∙ sym (member-turn (before-5 .args .body .now) (before-5 .args .register) (before-3 .loop .k) (before-3 .loop .a) (search needs)) ∙ before-3 .loop .inv .1,
+    )
 
 returns-2 : tie.Need-returns-2 Inv-loop μ-loop
 unfolding rulesFrom registers member

@@ -39,8 +39,12 @@ returns-2 c =
     let before-4 = before-3 .before in
     let before-5 = before-4 .before in
     let before-7 = before-5 .before .before in
-    rw (← before-5 .word .ensures, ← before-4 .word2 .ensures, sym (before-3 .cfa-fits .ensures) ∙ not-false (before-3 .cfa-fits .result) (c .before .before .if1 .left),
-    lt-leb (ruleCount (before-7 .args .body .now) (before-7 .args .a)) 64 (omega (arith, c .before .word3 .ensures)))
+    rw (
+      ← before-5 .word .ensures,
+      ← before-4 .word2 .ensures,
+      sym (before-3 .cfa-fits .ensures) ∙ not-false (before-3 .cfa-fits .result) (c .before .before .if1 .left),
+      lt-leb (ruleCount (before-7 .args .body .now) (before-7 .args .a)) 64 (omega (arith, c .before .word3 .ensures)),
+    )
 
 add-rules-fit : tie.Need-add-rules-fit
 add-rules-fit c = search needs
@@ -60,9 +64,15 @@ returns-3 c =
     let before-6 = before-5 .before in
     let before-7 = before-6 .before in
     let before-9 = before-7 .before .before in
-    rw (← before-7 .word .ensures, ← before-6 .word2 .ensures, sym (before-5 .cfa-fits .ensures) ∙ not-false (before-5 .cfa-fits .result) (before-4 .if1 .left),
-    le-leb (ruleCount (before-9 .args .body .now) (before-9 .args .a)) 64 (omega (arith, before-3 .word3 .ensures)), ← before-3 .word3 .ensures, sym (c .before .rules-fit .ensures)
-    ∙ not-true (c .before .rules-fit .result) (c .if3 .taken))
+    rw (
+      ← before-7 .word .ensures,
+      ← before-6 .word2 .ensures,
+      sym (before-5 .cfa-fits .ensures) ∙ not-false (before-5 .cfa-fits .result) (before-4 .if1 .left),
+      le-leb (ruleCount (before-9 .args .body .now) (before-9 .args .a)) 64 (omega (arith, before-3 .word3 .ensures)),
+      ← before-3 .word3 .ensures,
+      sym (c .before .rules-fit .ensures)
+          ∙ not-true (c .before .rules-fit .result) (c .if3 .taken),
+    )
 
 add-named-once : tie.Need-add-named-once
 add-named-once c = search needs
@@ -82,9 +92,14 @@ returns-4 c =
     let before-7 = before-6 .before in
     let before-8 = before-7 .before in
     let before-10 = before-8 .before .before in
-    rw (← before-8 .word .ensures, ← before-7 .word2 .ensures, sym (before-6 .cfa-fits .ensures) ∙ not-false (before-6 .cfa-fits .result) (before-5 .if1 .left),
-    le-leb (ruleCount (before-10 .args .body .now) (before-10 .args .a)) 64 (omega (arith, before-4 .word3 .ensures)), ← before-4 .word3 .ensures,
-    sym (c .before .before .rules-fit .ensures) ∙ not-false (c .before .before .rules-fit .result) (c .before .if3 .left)) (c .named-once .ensures)
+    rw (
+      ← before-8 .word .ensures,
+      ← before-7 .word2 .ensures,
+      sym (before-6 .cfa-fits .ensures) ∙ not-false (before-6 .cfa-fits .result) (before-5 .if1 .left),
+      le-leb (ruleCount (before-10 .args .body .now) (before-10 .args .a)) 64 (omega (arith, before-4 .word3 .ensures)),
+      ← before-4 .word3 .ensures,
+      sym (c .before .before .rules-fit .ensures) ∙ not-false (c .before .before .rules-fit .result) (c .before .if3 .left),
+    ) (c .named-once .ensures)
 
 pub row-fits-spec : {M : Type 1} → statement M
 row-fits-spec =

@@ -41,9 +41,11 @@ loop-less c = search needs
 loop-again : tie.Need-loop-again Inv-loop μ-loop
 loop-again c =
     let before-3 = c .before .before .before in
-    let before-5 = before-3 .before .before in
-    (omega arith, and-yes (ruleFits (before-5 .args .body .now) (before-3 .loop .a)) _ (sym (c .before .rule-fits .ensures) ∙ not-false (c .before .rule-fits .result) (c .if1 .left))
-    ∙ sym (rules-fit-step (before-5 .args .body .now) (before-3 .loop .k) (before-3 .loop .a) (search needs)) ∙ before-3 .loop .inv .1)
+    let before-5 = before-3 .before .before in (
+      omega arith,
+      and-yes (ruleFits (before-5 .args .body .now) (before-3 .loop .a)) _ (sym (c .before .rule-fits .ensures) ∙ not-false (c .before .rule-fits .result) (c .if1 .left))
+          ∙ sym (rules-fit-step (before-5 .args .body .now) (before-3 .loop .k) (before-3 .loop .a) (search needs)) ∙ before-3 .loop .inv .1,
+    )
 
 returns-2 : tie.Need-returns-2 Inv-loop μ-loop
 unfolding rulesFit

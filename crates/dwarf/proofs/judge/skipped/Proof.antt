@@ -21,8 +21,10 @@ unfolding dwarfSkipped
 returns-2 c =
     let before-3 = c .before .before .before in
     let before-5 = before-3 .before .before in
-    rw (ne-eqb (wide (before-5 .args .body .now) 1) 18446744073709551615 (λ e. c .before .before .if1 .left (before-3 .word64 .ensures ∙ e)),
-    eq-eqb (rowCount (before-5 .args .body .now)) 0 (sym (c .before .word .ensures) ∙ c .if2 .taken))
+    rw (
+      ne-eqb (wide (before-5 .args .body .now) 1) 18446744073709551615 (λ e. c .before .before .if1 .left (before-3 .word64 .ensures ∙ e)),
+      eq-eqb (rowCount (before-5 .args .body .now)) 0 (sym (c .before .word .ensures) ∙ c .if2 .taken),
+    )
 
 first-start-requires : tie.Need-first-start-requires
 first-start-requires c κs = search needs
@@ -37,8 +39,12 @@ returns-3 c =
     let before-4 = before-3 .before in
     let before-5 = before-4 .before in
     let before-7 = before-5 .before .before in
-    rw (ne-eqb (wide (before-7 .args .body .now) 1) 18446744073709551615 (λ e. before-4 .if1 .left (before-5 .word64 .ensures ∙ e)),
-    ne-eqb (rowCount (before-7 .args .body .now)) 0 (λ e. c .before .before .if2 .left (before-3 .word .ensures ∙ e)), ← c .before .first-start .ensures, ← c .word642 .ensures)
+    rw (
+      ne-eqb (wide (before-7 .args .body .now) 1) 18446744073709551615 (λ e. before-4 .if1 .left (before-5 .word64 .ensures ∙ e)),
+      ne-eqb (rowCount (before-7 .args .body .now)) 0 (λ e. c .before .before .if2 .left (before-3 .word .ensures ∙ e)),
+      ← c .before .first-start .ensures,
+      ← c .word642 .ensures,
+    )
 
 pub skipped-spec : {M : Type 1} → statement M
 skipped-spec =

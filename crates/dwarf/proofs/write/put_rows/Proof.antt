@@ -28,8 +28,12 @@ loop-holds c =
     rw (c .word .ensures) (lines-all (before-4 .pre) (c .before .start-state .ensures .0) (c .before .start-state .ensures .1) (c .before .start-state .ensures .2) (omega arith) (omega arith))
 
 put-row-requires : tie.Need-put-row-requires Inv-loop μ-loop
-put-row-requires c κs = (omega (arith, c .before .before .loop .inv .rest .bound), rest-few (c .before .before .loop .inv .rest) (search needs),
-    row-room (c .before .before .loop .inv) (search needs), row-once _ _ (rest-fits (c .before .before .loop .inv .rest) (search needs)))
+put-row-requires c κs = (
+  omega (arith, c .before .before .loop .inv .rest .bound),
+  rest-few (c .before .before .loop .inv .rest) (search needs),
+  row-room (c .before .before .loop .inv) (search needs),
+  row-once _ _ (rest-fits (c .before .before .loop .inv .rest) (search needs)),
+)
 
 add-a : tie.Need-add-a Inv-loop μ-loop
 add-a c = record { fits = omega (arith, c .before .before .before .before .before .before .loop .inv .rest .bound) }

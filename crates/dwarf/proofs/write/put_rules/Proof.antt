@@ -78,9 +78,13 @@ loop-again c =
     let lk : length (s .kind) ≡ 64 = before-16 .loop .inv .2 in
     let lv : length (s .value) ≡ 64 = before-16 .loop .inv .3 in
     let room = put-room (before-16 .loop .inv .0) (search needs) (before-14 .rule-at .ensures) in
-    let changed = change-is s (x .register) (x .kind) (x .value) lr lk lv room (before-10 .place .ensures) (before-5 .both .ensures) (before-4 .both2 .ensures) in
-    (put-turn (before-16 .loop .inv .0) (search needs) (before-14 .rule-at .ensures)
-    (put-as (c .before .before .write-register-rule .ensures) (ap (λ (t : Bool). cond t (ruleBytes (before-19 .args .family) (before-19 .args .ra) x) []) changed)), before-16 .loop .inv .1, lk, lv)
+    let changed = change-is s (x .register) (x .kind) (x .value) lr lk lv room (before-10 .place .ensures) (before-5 .both .ensures) (before-4 .both2 .ensures) in (
+      put-turn (before-16 .loop .inv .0) (search needs) (before-14 .rule-at .ensures)
+          (put-as (c .before .before .write-register-rule .ensures) (ap (λ (t : Bool). cond t (ruleBytes (before-19 .args .family) (before-19 .args .ra) x) []) changed)),
+      before-16 .loop .inv .1,
+      lk,
+      lv,
+    )
 
 returns : tie.Need-returns Inv-loop μ-loop
 returns c =

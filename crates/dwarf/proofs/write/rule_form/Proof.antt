@@ -47,8 +47,11 @@ returns-3 c =
     let before-5 = before-3 .before .before in
     let before-7 = before-5 .before .before in
     let f : SFits w64 (c .signed-of2 .result) = search needs in
-    rw (ne-eqb (before-7 .args .rule .kind) 0 (before-5 .if1 .left), ne-eqb (before-7 .args .rule .kind) 1 (before-3 .if2 .left),
-    eq-eqb (before-7 .args .rule .kind) 2 (c .before .if3 .taken)) (record {
+    rw (
+      ne-eqb (before-7 .args .rule .kind) 0 (before-5 .if1 .left),
+      ne-eqb (before-7 .args .rule .kind) 1 (before-3 .if2 .left),
+      eq-eqb (before-7 .args .rule .kind) 2 (c .before .if3 .taken),
+    ) (record {
       some-is = refl;
       bytes-are = ap (λ (z : ℤ). ascii ".cfa " ++ signed z ++ ascii " +") (toZ-ofZ f ∙ c .signed-of2 .ensures);
     })
@@ -63,8 +66,12 @@ returns-4 c =
     let before-5 = before-3 .before .before in
     let before-7 = before-5 .before .before in
     let before-9 = before-7 .before .before in
-    rw (ne-eqb (before-9 .args .rule .kind) 0 (before-7 .if1 .left), ne-eqb (before-9 .args .rule .kind) 1 (before-5 .if2 .left), ne-eqb (before-9 .args .rule .kind) 2 (before-3 .if3 .left),
-    eq-eqb (before-9 .args .rule .kind) 3 (c .before .if4 .taken)) (c .value-form .ensures)
+    rw (
+      ne-eqb (before-9 .args .rule .kind) 0 (before-7 .if1 .left),
+      ne-eqb (before-9 .args .rule .kind) 1 (before-5 .if2 .left),
+      ne-eqb (before-9 .args .rule .kind) 2 (before-3 .if3 .left),
+      eq-eqb (before-9 .args .rule .kind) 3 (c .before .if4 .taken),
+    ) (c .value-form .ensures)
 
 no-form-requires : tie.Need-no-form-requires
 no-form-requires c κs = search needs
@@ -76,8 +83,12 @@ returns-5 c =
     let before-5 = before-3 .before .before in
     let before-7 = before-5 .before .before in
     let before-9 = before-7 .before .before in
-    rw (ne-eqb (before-9 .args .rule .kind) 0 (before-7 .if1 .left), ne-eqb (before-9 .args .rule .kind) 1 (before-5 .if2 .left), ne-eqb (before-9 .args .rule .kind) 2 (before-3 .if3 .left),
-    ne-eqb (before-9 .args .rule .kind) 3 (c .before .if4 .left)) (c .no-form .ensures)
+    rw (
+      ne-eqb (before-9 .args .rule .kind) 0 (before-7 .if1 .left),
+      ne-eqb (before-9 .args .rule .kind) 1 (before-5 .if2 .left),
+      ne-eqb (before-9 .args .rule .kind) 2 (before-3 .if3 .left),
+      ne-eqb (before-9 .args .rule .kind) 3 (c .before .if4 .left),
+    ) (c .no-form .ensures)
 
 pub rule-form-spec : {M : Type 1} → statement M
 rule-form-spec =
