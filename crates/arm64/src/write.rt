@@ -9,13 +9,16 @@ use crate::body::SIZE_AT;
 use crate::body::op_at;
 use entry::word;
 use lines::Form;
-use lines::Name;
 use lines::Reg;
 use lines::Rule;
+use lines::cfa_name;
 use lines::difference;
 use lines::put_init;
 use lines::put_later;
 use lines::put_rule;
+use lines::ra_name;
+use names::Name;
+use names::arm64_register_name;
 use text::put_byte;
 ghost use mathlib.Core.Bool.{not};
 ghost use mathlib.Core.List.{_++_};
@@ -23,7 +26,7 @@ ghost use Prim.Native.Nat.{_^_, _<_, _≤_};
 ghost use lib.ListN.{getD};
 ghost use lib.Dec.{T};
 ghost use Rattle.text.specs.Text.{Put, ascii};
-ghost use Rattle.lines.specs.Rules.{ruleName};
+ghost use Rattle.names.specs.Names.{nameText};
 ghost use Rattle.arm64.specs.Arm64.{noPair, placeText, savedText, cfaText, raText, given, defaultsText, firstLine, laterLine, nthLine, run, inReach};
 ghost use Rattle.arm64.specs.Encoder.{stepText, Near, Small};
 ghost use Rattle.arm64.specs.Index.{opsRun};
@@ -31,7 +34,7 @@ ghost use Rattle.arm64.specs.Index.{opsRun};
 // " R: .cfa N + ^"
 fn put_saved(out: &mut [u8], at: usize, name: Name, a: u64, b: u64) -> usize
     requires { ⌜ (a < 2 ^ 63) × (b < 2 ^ 63) ⌝ }
-    ensures { λ r. ⌜ Put (now (out .entry)) at (ascii " " ++ ruleName name ++ ascii ": " ++ placeText a b) (now (out .exit)) r ⌝ }
+    ensures { λ r. ⌜ Put (now (out .entry)) at (ascii " " ++ nameText name ++ ascii ": " ++ placeText a b) (now (out .exit)) r ⌝ }
 {
     let x = difference(a, b);
     let form = Form::AtCfaPlus(x);
@@ -44,8 +47,7 @@ fn put_register(out: &mut [u8], at: usize, saved: bool, p: Saved) -> usize
     ensures { λ r. ⌜ Put (now (out .entry)) at (given saved (savedText p)) (now (out .exit)) r ⌝ }
 {
     if saved {
-        let reg = Reg::Arm64(p.letter, p.register as u32);
-        let name = Name::Of(reg);
+        let name = arm64_register_name(p.letter, p.register as u32);
         return put_saved(out, at, name, p.a, p.b);
     }
     at
@@ -56,7 +58,7 @@ fn put_ra(out: &mut [u8], at: usize, written: bool, p: Saved) -> usize
     ensures { λ r. ⌜ Put (now (out .entry)) at (given written (raText p)) (now (out .exit)) r ⌝ }
 {
     if written {
-        let name = Name::Ra;
+        let name = ra_name();
         return put_saved(out, at, name, p.a, p.b);
     }
     at
@@ -69,7 +71,7 @@ fn put_cfa(out: &mut [u8], at: usize, touched: bool, total: u64) -> usize
     if touched {
         let x = difference(total, 0);
         let reg = Reg::Sp;
-        let name = Name::Cfa;
+        let name = cfa_name();
         let form = Form::RegisterPlus(reg, x);
         return put_rule(out, at, Rule { name, form });
     }
@@ -94,7 +96,7 @@ fn put_default_cfa(out: &mut [u8], at: usize, touched: bool) -> usize
         return at;
     }
     let reg = Reg::Sp;
-    let name = Name::Cfa;
+    let name = cfa_name();
     let form = Form::Register(reg);
     put_rule(out, at, Rule { name, form })
 }
@@ -106,7 +108,7 @@ fn put_default_ra(out: &mut [u8], at: usize, written: bool) -> usize
         return at;
     }
     let reg = Reg::Arm64(0, 30);
-    let name = Name::Ra;
+    let name = ra_name();
     let form = Form::Register(reg);
     put_rule(out, at, Rule { name, form })
 }

@@ -32,12 +32,14 @@ use entry::either;
 use entry::saturating_sub;
 use entry::word;
 use lines::Form;
-use lines::Name;
 use lines::Reg;
 use lines::Rule;
+use lines::cfa_name;
 use lines::put_init;
 use lines::put_later;
 use lines::put_rule;
+use lines::ra_name;
+use names::cfi_register_name;
 use names::has_cfi_name;
 use text::put_byte;
 ghost use mathlib.Core.Path.{_≡_};
@@ -139,11 +141,11 @@ fn format_rule(family: u32, ra: u32, rule: RegisterRule) -> Formatted
     let f = rule_form(family, rule);
     let form = f.form;
     if rule.register == ra {
-        let name = Name::Ra;
+        let name = ra_name();
         let rule = Rule { name, form };
         return Formatted { some: f.some, rule };
     }
-    let name = Name::Of(Reg::Cfi(family, rule.register));
+    let name = cfi_register_name(family, rule.register);
     let some = both(f.some, has_name(family, rule.register));
     let rule = Rule { name, form };
     Formatted { some, rule }
@@ -157,7 +159,7 @@ fn format_cfa(family: u32, cfa: CfaRule) -> Formatted
     let some = both(cfa.kind == CFA_REGISTER, named);
     let reg = Reg::Cfi(family, cfa.register);
     let form = Form::RegisterPlus(reg, signed_of(cfa.offset));
-    let name = Name::Cfa;
+    let name = cfa_name();
     let rule = Rule { name, form };
     Formatted { some, rule }
 }
@@ -169,7 +171,7 @@ fn format_default(family: u32, ra: u32) -> Formatted
     let kept = both(3 <= family, family <= 9);
     let some = both(kept, has_name(family, ra));
     let form = Form::Register(Reg::Cfi(family, ra));
-    let name = Name::Ra;
+    let name = ra_name();
     let rule = Rule { name, form };
     Formatted { some, rule }
 }

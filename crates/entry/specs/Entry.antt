@@ -17,7 +17,7 @@ word ws i = getD ws i 0
 
 -- before the first entry
 abbrev pub noLast : Last
-noLast = record { some = false; ty = 0; start = 0; «code_size» = 0; «prolog_size» = 0 }
+noLast = record { some = false; ty = 0; start = record { 0 = 0 }; «code_size» = 0; «prolog_size» = 0 }
 
 -- a refusal's number (4 to 7) or 0, its text, and what it leaves to the next
 pub record Entry : Type 0 where

@@ -3,6 +3,7 @@
 
 pub mod refusal;
 
+use lines::Rva;
 ghost use mathlib.Core.Path.{_≡_};
 ghost use mathlib.Core.Bool.{_&&_, _||_};
 ghost use Prim.Native.Nat.{_-_};
@@ -20,7 +21,7 @@ pub enum Judged {
 pub struct Last {
     pub some: bool,
     pub ty: u32,
-    pub start: u32,
+    pub start: Rva,
     pub code_size: u32,
     pub prolog_size: u32,
 }
@@ -39,7 +40,7 @@ impl Last {
         Last {
             some: false,
             ty: 0,
-            start: 0,
+            start: Rva(0),
             code_size: 0,
             prolog_size: 0,
         }

@@ -2,10 +2,10 @@
 // tests/leaves.rs compares the output with Rust's own formatting and with the tables of the Rust source.
 use libc::STDOUT_FILENO;
 use lines::Form;
-use lines::Name;
 use lines::Reg;
 use lines::Rule;
 use lines::StackInfo;
+use names::Name;
 use text::put_byte;
 use text::put_bytes;
 use text::put_decimal;
@@ -251,20 +251,20 @@ fn show_forms(name: Name, reg: Reg, x: i64) {
 }
 
 fn show_rules() {
-    show_forms(Name::Cfa, Reg::Pe(4), 48);
-    show_forms(Name::Ra, Reg::Sp, -8);
-    show_forms(Name::Of(Reg::Pe(3)), Reg::Pe(5), 0);
+    show_forms(lines::cfa_name(), Reg::Pe(4), 48);
+    show_forms(lines::ra_name(), Reg::Sp, -8);
+    show_forms(names::pe_register_name(3), Reg::Pe(5), 0);
     show_forms(
-        Name::Of(Reg::Cfi(2, 58)),
+        names::cfi_register_name(2, 58),
         Reg::Cfi(7, 29),
         9223372036854775807,
     );
     show_forms(
-        Name::Of(Reg::Arm64(0, 29)),
+        names::arm64_register_name(0, 29),
         Reg::Arm64(1, 8),
         -9223372036854775808,
     );
-    show_forms(Name::Of(Reg::Sp), Reg::Arm64(2, 255), 2147483647);
+    show_forms(names::arm64_register_name(2, 255), Reg::Sp, 2147483647);
 }
 
 // ---- beginnings of lines
@@ -307,7 +307,7 @@ fn show_stack_info(info: StackInfo, program: bool) {
 fn fields(x: u32) -> StackInfo {
     StackInfo {
         ty: x,
-        start: std::num::wrapping_add_u32(x, 1),
+        start: lines::Rva(std::num::wrapping_add_u32(x, 1)),
         code_size: std::num::wrapping_add_u32(x, 2),
         prolog_size: std::num::wrapping_add_u32(x, 3),
         epilog_size: std::num::wrapping_add_u32(x, 4),

@@ -87,7 +87,7 @@ flag true = ascii "1 "
 -- 01, PDB body: the nine numbers, then the flag
 unfoldable pub winText : StackInfo → Bool → Bytes
 winText i program =
-    ascii "STACK WIN " ++ field (i .ty) ++ field (i .start) ++ field (i .«code_size») ++ field (i .«prolog_size») ++ field (i .«epilog_size»)
+    ascii "STACK WIN " ++ field (i .ty) ++ field (i .start .0) ++ field (i .«code_size») ++ field (i .«prolog_size») ++ field (i .«epilog_size»)
     ++ field (i .«params_size») ++ field (i .«saved_regs_size») ++ field (i .«locals_size») ++ field (i .«max_stack_size») ++ flag program
 
 -- a line with its newline

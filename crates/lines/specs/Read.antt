@@ -48,7 +48,7 @@ readWin ws tail =
     win
     (record {
       ty = readHex (getD ws 0 []);
-      start = readHex (getD ws 1 []);
+      start = record { 0 = readHex (getD ws 1 []) };
       «code_size» = readHex (getD ws 2 []);
       «prolog_size» = readHex (getD ws 3 []);
       «epilog_size» = readHex (getD ws 4 []);

@@ -2,12 +2,10 @@
 use Prim.Native.Nat.{ℕ}
 use mathlib.Core.List.{List}
 use Rattle.text.specs.Text.{ascii}
-use Rattle.names.specs.Names.{cfiName, peName, arm64Name}
+use Rattle.names.specs.Names.{cfiName, peName, arm64Name, nameText}
 use Rattle.lines.specs.Lines as L
 use Rattle.lines.specs.declared.Reg.{Reg}
 use Rattle.lines.specs.declared.Reg.the-variants.{Sp, Pe, Cfi, Arm64}
-use Rattle.lines.specs.declared.Name.{Name}
-use Rattle.lines.specs.declared.Name.the-variants.{Cfa, Ra, Of}
 use Rattle.lines.specs.declared.Form.{Form}
 use Rattle.lines.specs.declared.Form.the-variants.{Register, RegisterPlus, AtRegisterPlus, CfaPlus, AtCfaPlus, AtCfaMinus}
 use Rattle.lines.specs.declared.Rule.{Rule}
@@ -20,12 +18,6 @@ regName (Pe r) = peName r
 regName (Cfi f r) = cfiName f r
 regName (Arm64 l r) = arm64Name l r
 
--- and of what a rule is for
-unfoldable pub ruleName : Name → List ℕ
-ruleName Cfa = ascii ".cfa"
-ruleName Ra = ascii ".ra"
-ruleName (Of r) = regName r
-
 -- the code's forms are those of the sense
 unfoldable pub formOf : Form → L.Form
 formOf (Register r) = L.register (regName r)
@@ -37,4 +29,4 @@ formOf (AtCfaMinus n) = L.atCfaMinus n
 
 -- and its rules
 unfoldable pub ruleOf : Rule → L.Rule
-ruleOf r = L.rule (ruleName (r .name)) (formOf (r .form))
+ruleOf r = L.rule (nameText (r .name)) (formOf (r .form))

@@ -49,7 +49,7 @@ cases =
           win
           (record {
             ty = 4;
-            start = 8560;
+            start = record { 0 = 8560 };
             «code_size» = 20;
             «prolog_size» = 1;
             «epilog_size» = 0;
@@ -62,7 +62,7 @@ cases =
           ∷ win
           (record {
             ty = 0;
-            start = 1;
+            start = record { 0 = 1 };
             «code_size» = 2;
             «prolog_size» = 3;
             «epilog_size» = 0;

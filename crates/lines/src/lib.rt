@@ -1,4 +1,6 @@
 // The lines of a Breakpad symbol file that tell how to unwind: rules, and the beginnings of STACK CFI and STACK WIN lines.
+use names::Name;
+use names::put_name;
 use text::put_byte;
 use text::put_bytes;
 use text::put_hex;
@@ -6,9 +8,10 @@ use text::put_signed;
 ghost use mathlib.Core.Path.{_≡_};
 ghost use Prim.Native.Nat.{_^_, _<_};
 ghost use lib.IntN.{subℕ};
-ghost use Rattle.text.specs.Text.{Put};
+ghost use Rattle.text.specs.Text.{Put, ascii};
+ghost use Rattle.names.specs.Names.{nameText};
 ghost use Rattle.lines.specs.Lines.{amount, formText, ruleText, initText, laterText, field, flag, winText};
-ghost use Rattle.lines.specs.Rules.{regName, ruleName, formOf, ruleOf};
+ghost use Rattle.lines.specs.Rules.{regName, formOf, ruleOf};
 
 // A register that a rule speaks of.
 pub enum Reg {
@@ -22,13 +25,6 @@ pub enum Reg {
     Arm64(u32, u32),
 }
 
-// What a rule gives: the canonical frame address, the return address, or a register.
-pub enum Name {
-    Cfa,
-    Ra,
-    Of(Reg),
-}
-
 // How a value is found. `At` forms load what stands at the address.
 pub enum Form {
     Register(Reg),
@@ -39,15 +35,19 @@ pub enum Form {
     AtCfaMinus(i64),
 }
 
+// A name, of what the rule gives, and how that is found.
 pub struct Rule {
     pub name: Name,
     pub form: Form,
 }
 
+// An address of an image, relative to its start.
+pub struct Rva(pub u32);
+
 // The numbers of a STACK WIN line, in its order.
 pub struct StackInfo {
     pub ty: u32,
-    pub start: u32,
+    pub start: Rva,
     pub code_size: u32,
     pub prolog_size: u32,
     pub epilog_size: u32,
@@ -55,6 +55,26 @@ pub struct StackInfo {
     pub saved_regs_size: u32,
     pub locals_size: u32,
     pub max_stack_size: u32,
+}
+
+// The canonical frame address, as the name of a rule.
+pub fn cfa_name() -> Name
+    ensures { λ r. ⌜ nameText r ≡ ascii ".cfa" ⌝ }
+{
+    Name {
+        bytes: *b".cfa    ",
+        len: 4,
+    }
+}
+
+// The return address, as the name of a rule.
+pub fn ra_name() -> Name
+    ensures { λ r. ⌜ nameText r ≡ ascii ".ra" ⌝ }
+{
+    Name {
+        bytes: *b".ra     ",
+        len: 3,
+    }
 }
 
 fn put_reg(out: &mut [u8], at: usize, reg: Reg) -> usize
@@ -65,22 +85,6 @@ fn put_reg(out: &mut [u8], at: usize, reg: Reg) -> usize
         Reg::Pe(register) => names::put_pe_name(out, at, register),
         Reg::Cfi(family, register) => names::put_cfi_name(out, at, family, register),
         Reg::Arm64(letter, register) => names::put_arm64_name(out, at, letter, register),
-    }
-}
-
-// As `put_reg` writes a register; it is taken apart here, since a register that is handed on goes through memory, which costs more than the rest.
-fn put_rule_name(out: &mut [u8], at: usize, name: Name) -> usize
-    ensures { λ r. ⌜ Put (now (out .entry)) at (ruleName name) (now (out .exit)) r ⌝ }
-{
-    match name {
-        Name::Cfa => put_bytes(out, at, b".cfa"),
-        Name::Ra => put_bytes(out, at, b".ra"),
-        Name::Of(reg) => match reg {
-            Reg::Sp => put_bytes(out, at, b".sp"),
-            Reg::Pe(register) => names::put_pe_name(out, at, register),
-            Reg::Cfi(family, register) => names::put_cfi_name(out, at, family, register),
-            Reg::Arm64(letter, register) => names::put_arm64_name(out, at, letter, register),
-        },
     }
 }
 
@@ -127,7 +131,7 @@ pub fn put_rule(out: &mut [u8], at: usize, rule: Rule) -> usize
 {
     let p = put_byte(out, at, b' ');
     let name = rule.name;
-    let p = put_rule_name(out, p, name);
+    let p = put_name(out, p, name);
     let p = put_bytes(out, p, b": ");
     let form = rule.form;
     put_form(out, p, form)
@@ -177,7 +181,7 @@ pub fn put_stack_info(out: &mut [u8], at: usize, info: StackInfo, program: bool)
 {
     let p = put_bytes(out, at, b"STACK WIN ");
     let p = put_field(out, p, info.ty);
-    let p = put_field(out, p, info.start);
+    let p = put_field(out, p, info.start.0);
     let p = put_field(out, p, info.code_size);
     let p = put_field(out, p, info.prolog_size);
     let p = put_field(out, p, info.epilog_size);

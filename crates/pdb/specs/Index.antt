@@ -282,7 +282,7 @@ trim-all p t h = aux-all p (lead (reverse (lead t))) [] (lead-all p (reverse (le
 unfoldable pub infoOf : List ℕ → ℕ → ℕ → ℕ → StackInfo
 infoOf ws s e p = record {
   ty = word ws 0;
-  start = s;
+  start = record { 0 = s };
   «code_size» = e - s;
   «prolog_size» = p;
   «epilog_size» = 0;

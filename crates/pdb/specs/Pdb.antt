@@ -111,13 +111,13 @@ pdbLayout ws = sizesFit ws && (flagsFit ws && (countsFit ws && restFits ws))
 
 -- what an entry leaves to the next: type, start, code size, prolog size
 unfoldable pub leaves : List ℕ → Last
-leaves ws = record { some = true; ty = word ws 0; start = word ws 1; «code_size» = word ws 2; «prolog_size» = word ws 3 }
+leaves ws = record { some = true; ty = word ws 0; start = record { 0 = word ws 1 }; «code_size» = word ws 2; «prolog_size» = word ws 3 }
 
 -- there was a last entry, and the next one has the same
 unfoldable pub repeats : Last → Last → Bool
 repeats last next =
     last .some
-    && (eqb (last .ty) (next .ty) && (eqb (last .start) (next .start) && (eqb (last .«code_size») (next .«code_size») && eqb (last .«prolog_size») (next .«prolog_size»))))
+    && (eqb (last .ty) (next .ty) && (eqb (last .start .0) (next .start .0) && (eqb (last .«code_size») (next .«code_size») && eqb (last .«prolog_size») (next .«prolog_size»))))
 
 -- a code size above 7FFFFFFFh, or the same as the last entry not skipped
 unfoldable pub pdbSkipped : Last → List ℕ → Bool

@@ -56,7 +56,7 @@ mostStack ws = cond (eqb (word ws 7) 1) (word ws 8) 0
 unfoldable pub fieldsOf : List ℕ → ℕ → ℕ → ℕ → StackInfo
 fieldsOf ws s e p = record {
   ty = word ws 0;
-  start = s;
+  start = record { 0 = s };
   «code_size» = e - s;
   «prolog_size» = p;
   «epilog_size» = 0;
@@ -81,7 +81,7 @@ bothFields ws p c = fieldsOf ws (startOf p) (endOf c) (endOf p - startOf p)
 -- behind those that start below it
 unfoldable pub placed : StackInfo → List StackInfo → List StackInfo
 placed i [] = i ∷ []
-placed i (j ∷ js) = cond (ltb (j .start) (i .start)) (j ∷ placed i js) (i ∷ j ∷ js)
+placed i (j ∷ js) = cond (ltb (j .start .0) (i .start .0)) (j ∷ placed i js) (i ∷ j ∷ js)
 
 -- by start
 unfoldable pub byStart : List StackInfo → List StackInfo

@@ -33,14 +33,14 @@ cases =
     record { last = noLast; body = frame; number = 0; text = ascii "STACK WIN 4 1000 40 5 0 8 4 10 20 1 $eip 4 + ^ =\n"; next = 4096 }
     -- the same entry again, and the same after another prolog size
     ∷ record {
-      last = record { some = true; ty = 4; start = 4096; «code_size» = 64; «prolog_size» = 5 };
+      last = record { some = true; ty = 4; start = record { 0 = 4096 }; «code_size» = 64; «prolog_size» = 5 };
       body = frame;
       number = 0;
       text = [];
       next = 4096;
     }
     ∷ record {
-      last = record { some = true; ty = 4; start = 4096; «code_size» = 64; «prolog_size» = 6 };
+      last = record { some = true; ty = 4; start = record { 0 = 4096 }; «code_size» = 64; «prolog_size» = 6 };
       body = frame;
       number = 0;
       text = ascii "STACK WIN 4 1000 40 5 0 8 4 10 20 1 $eip 4 + ^ =\n";
@@ -88,7 +88,7 @@ abbrev pub passes : Case → Bool
 passes k =
     let e = pdbEntry (k .last) (k .body) in
     eqb (e .number) (k .number)
-    && (eqw (e .text) (k .text) && (cond (eqb (k .number) 0) (eqw (render false (unskipped (k .last) (k .body))) (k .text)) true && eqb (e .next .start) (k .next)))
+    && (eqw (e .text) (k .text) && (cond (eqb (k .number) 0) (eqw (render false (unskipped (k .last) (k .body))) (k .text)) true && eqb (e .next .start .0) (k .next)))
 
 worked : T (all passes cases)
 unfolding cases Pdb·open Lines·open withProgram noFront before noBack winTail mostStack fieldsOf prologFields codeFields bothFields placed byStart meets stackInfos winLine pdbLines

@@ -9,9 +9,9 @@
 //     6 locals                    14 program length, at most 1,024
 //     7 mark of a max stack       15 prolog ranges, code ranges (start, end), program bytes, one a word
 use crate::Range;
-use crate::Rva;
 use entry::Last;
 use entry::word;
+use lines::Rva;
 ghost use mathlib.Core.Path.{_≡_};
 ghost use Prim.Native.Nat.{_-_, _^_, _<_};
 ghost use Rattle.pdb.specs.Pdb.{rangeAt, hasProgram, leaves, maxStack};
@@ -104,7 +104,7 @@ pub(crate) fn own(body: &[u32]) -> Last
     Last {
         some: true,
         ty: word(body, TYPE_AT),
-        start: word(body, CODE_START_AT),
+        start: Rva(word(body, CODE_START_AT)),
         code_size: word(body, CODE_SIZE_AT),
         prolog_size: word(body, PROLOG_SIZE_AT),
     }

@@ -1,6 +1,5 @@
 // What becomes of a PDB entry: refused by 4, skipped, refused by 6, or written.
 use crate::Range;
-use crate::Rva;
 use crate::body::BASE_POINTER_AT;
 use crate::body::CODE_SIZE_AT;
 use crate::body::CODE_START_AT;
@@ -26,6 +25,7 @@ use entry::Last;
 use entry::both;
 use entry::refusal;
 use entry::word;
+use lines::Rva;
 ghost use mathlib.Core.Path.{_≡_};
 ghost use Prim.Native.Nat.{_^_, _<_, _≤_};
 ghost use lib.Dec.{T};
@@ -221,7 +221,7 @@ fn repeated(last: Last, next: Last) -> bool
     if last.ty != next.ty {
         return false;
     }
-    if last.start != next.start {
+    if last.start.0 != next.start.0 {
         return false;
     }
     if last.code_size != next.code_size {

@@ -16,12 +16,14 @@ use crate::body::op_at;
 use entry::saturating_sub;
 use entry::word;
 use lines::Form;
-use lines::Name;
 use lines::Reg;
 use lines::Rule;
+use lines::cfa_name;
 use lines::difference;
 use lines::put_init;
 use lines::put_rule;
+use lines::ra_name;
+use names::pe_register_name;
 use text::put_byte;
 ghost use mathlib.Core.Path.{_≡_};
 ghost use Prim.Native.Nat.{_+_, _-_, _^_, _<_, _≤_};
@@ -47,8 +49,7 @@ fn put_saved(out: &mut [u8], at: usize, register: u32, a: u64, b: u64) -> usize
     ensures { λ r. ⌜ Put (now (out .entry)) at (savedText (peName register) (subℕ a b)) (now (out .exit)) r ⌝ }
 {
     let x = difference(a, b);
-    let reg = Reg::Pe(register);
-    let name = Name::Of(reg);
+    let name = pe_register_name(register);
     let form = Form::AtCfaMinus(x);
     put_rule(out, at, Rule { name, form })
 }
@@ -58,8 +59,7 @@ fn put_framed(out: &mut [u8], at: usize, register: u32, frame: u32, a: u32, b: u
     ensures { λ r. ⌜ Put (now (out .entry)) at (framedText (peName register) (peName frame) (subℕ a b)) (now (out .exit)) r ⌝ }
 {
     let x = difference(a as u64, b as u64);
-    let reg = Reg::Pe(register);
-    let name = Name::Of(reg);
+    let name = pe_register_name(register);
     let base = Reg::Pe(frame);
     let form = Form::AtRegisterPlus(base, x);
     put_rule(out, at, Rule { name, form })
@@ -71,7 +71,7 @@ fn put_return(out: &mut [u8], at: usize, a: u64) -> usize
     ensures { λ r. ⌜ Put (now (out .entry)) at (savedText (ascii ".ra") (pos a)) (now (out .exit)) r ⌝ }
 {
     let x = difference(a, 0);
-    let name = Name::Ra;
+    let name = ra_name();
     let form = Form::AtCfaMinus(x);
     put_rule(out, at, Rule { name, form })
 }
@@ -82,7 +82,7 @@ fn put_cfa(out: &mut [u8], at: usize, register: u32, a: u64, b: u64) -> usize
     ensures { λ r. ⌜ Put (now (out .entry)) at (cfaText (peName register) (subℕ a b)) (now (out .exit)) r ⌝ }
 {
     let x = difference(a, b);
-    let name = Name::Cfa;
+    let name = cfa_name();
     let base = Reg::Pe(register);
     let form = Form::RegisterPlus(base, x);
     put_rule(out, at, Rule { name, form })

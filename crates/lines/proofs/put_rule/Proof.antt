@@ -9,8 +9,8 @@ use Rattle.lines.proofs.put_rule.Tie as tie
 put-byte-requires : tie.Need-put-byte-requires
 put-byte-requires c κs = search needs
 
-put-rule-name-requires : tie.Need-put-rule-name-requires
-put-rule-name-requires c κs = search needs
+put-name-requires : tie.Need-put-name-requires
+put-name-requires c κs = search needs
 
 slice-aggregate-put-bytes : tie.Need-slice-aggregate-put-bytes
 slice-aggregate-put-bytes c = search needs
@@ -29,15 +29,15 @@ unfolding ruleText ruleOf
 returns c =
     let k3 = c .before .before .before .before .before .before in
     let k2 = k3 .before .before .before .before .before in
-    let k1 = k2 .before .before .before .before in
-    k1 .put-byte .ensures ⨾ k2 .put-rule-name .ensures ⨾ k3 .put-bytes .ensures ⨾ c .before .before .put-form .ensures
+    let k1 = k2 .before .before .before .before .before in
+    k1 .put-byte .ensures ⨾ k2 .put-name .ensures ⨾ k3 .put-bytes .ensures ⨾ c .before .before .put-form .ensures
 
 pub put-rule-spec : {M : Type 1} → statement M
 put-rule-spec =
     tie.close
     (tie.spec
     put-byte-requires
-    put-rule-name-requires
+    put-name-requires
     slice-aggregate-put-bytes
     put-bytes-requires
     put-form-requires

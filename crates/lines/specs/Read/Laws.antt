@@ -49,7 +49,7 @@ unfoldable lineWords : Bool → Line → List Bytes
 lineWords six (init a z rs) = ascii "CFI" ∷ ascii "INIT" ∷ hex a ∷ hex z ∷ rulesWords rs
 lineWords six (later a rs) = ascii "CFI" ∷ gapWords six ++ (hex a ∷ rulesWords rs)
 lineWords six (win i p tail) =
-    ascii "WIN" ∷ hex (i .ty) ∷ hex (i .start) ∷ hex (i .«code_size») ∷ hex (i .«prolog_size») ∷ hex (i .«epilog_size»)
+    ascii "WIN" ∷ hex (i .ty) ∷ hex (i .start .0) ∷ hex (i .«code_size») ∷ hex (i .«prolog_size») ∷ hex (i .«epilog_size»)
     ∷ hex (i .«params_size») ∷ hex (i .«saved_regs_size») ∷ hex (i .«locals_size») ∷ hex (i .«max_stack_size») ∷ flagWord p ∷ []
 
 -- a WIN line's tail behind its space
@@ -97,7 +97,7 @@ win-words : (i : StackInfo) (p : Bool) (tail w : Bytes) → flag p ≡ w ++ (32 
     → winText i p ++ tail ++ (10 ∷ []) ≡ lineBody false (win i p tail) ++ (10 ∷ [])
 unfolding winText lineBody lineWords lineTail
 win-words i p tail w e k = rw (e, ← k) (ap (λ (l : Bytes). ascii "STACK WIN " ++ l)
-    (ten (hex (i .ty)) (hex (i .start)) (hex (i .«code_size»)) (hex (i .«prolog_size»)) (hex (i .«epilog_size»)) (hex (i .«params_size»))
+    (ten (hex (i .ty)) (hex (i .start .0)) (hex (i .«code_size»)) (hex (i .«prolog_size»)) (hex (i .«epilog_size»)) (hex (i .«params_size»))
     (hex (i .«saved_regs_size»)) (hex (i .«locals_size»)) (hex (i .«max_stack_size»)) w tail))
 
 line-words : (six : Bool) (l : Line) → lineText six l ≡ lineBody six l ++ 10 ∷ []

@@ -1,4 +1,4 @@
--- Every name of the tables, and so every rule of the code, is well formed: a computed test over each table.
+-- Every name of the tables, and so every rule of the code with a name of them, is well formed: a computed test over each table.
 use Prim.Native.Nat.{ℕ, zero, suc}
 use mathlib.Core.Bool.{Bool, true, false, cond}
 use mathlib.Core.List.{List, [], _∷_, _++_}
@@ -8,13 +8,11 @@ use Rattle.text.specs.Text.{ascii}
 use Rattle.text.specs.Tests.{all, and-l, and-r, both, either}
 use Rattle.text.specs.Digits.{digit, decimal}
 use Rattle.text.specs.Digits.Laws.{decimal-all}
-use Rattle.names.specs.Names.{i386, x86-64, arm, arm64, ppc, mips, pe-x64, table, cfiName, peName, letterOf, arm64Name}
+use Rattle.names.specs.Names.{i386, x86-64, arm, arm64, ppc, mips, pe-x64, table, cfiName, peName, letterOf, arm64Name, nameText}
 use Rattle.lines.specs.Lines.{Bytes, nameByte, nameOk, registerOk, formOk, ruleOk}
-use Rattle.lines.specs.Rules.{regName, ruleName, formOf, ruleOf}
+use Rattle.lines.specs.Rules.{regName, formOf, ruleOf}
 use Rattle.lines.specs.declared.Reg.{Reg}
 use Rattle.lines.specs.declared.Reg.the-variants.{Sp, Pe, Cfi, Arm64}
-use Rattle.lines.specs.declared.Name.{Name}
-use Rattle.lines.specs.declared.Name.the-variants.{Cfa, Ra, Of}
 use Rattle.lines.specs.declared.Form.{Form}
 use Rattle.lines.specs.declared.Form.the-variants.{Register, RegisterPlus, AtRegisterPlus, CfaPlus, AtCfaPlus, AtCfaMinus}
 use Rattle.lines.specs.declared.Rule.{Rule}
@@ -55,12 +53,6 @@ reg-ok (Pe r) = pe-ok r
 reg-ok (Cfi f r) = cfi-ok f r
 reg-ok (Arm64 l r) = arm64-ok l r
 
-name-ok : (n : Name) → T (nameOk (ruleName n))
-unfolding ruleName
-name-ok Cfa = tt
-name-ok Ra = tt
-name-ok (Of r) = and-l (nameOk (regName r)) _ (reg-ok r)
-
 form-ok : (f : Form) → T (formOk (formOf f))
 unfolding formOf
 form-ok (Register r) = reg-ok r
@@ -70,6 +62,6 @@ form-ok (CfaPlus n) = tt
 form-ok (AtCfaPlus n) = tt
 form-ok (AtCfaMinus n) = tt
 
-pub rule-ok : (r : Rule) → T (ruleOk (ruleOf r))
+pub rule-ok : (r : Rule) → T (nameOk (nameText (r .name))) → T (ruleOk (ruleOf r))
 unfolding ruleOf
-rule-ok r = both (nameOk (ruleName (r .name))) _ (name-ok (r .name)) (form-ok (r .form))
+rule-ok r h = both (nameOk (nameText (r .name))) _ h (form-ok (r .form))

@@ -8,7 +8,7 @@ use Rattle.text.specs.Text.Laws.{put-as}
 use Rattle.text.specs.Text.{ascii}
 use Rattle.text.specs.Text.Laws.{put-none}
 use Rattle.lines.specs.Lines.{rule, cfa, registerPlus, formText, ruleText}
-use Rattle.lines.specs.Rules.{ruleOf, ruleName, regName, formOf}
+use Rattle.lines.specs.Rules.{ruleOf, regName, formOf}
 use Rattle.arm64.specs.Arm64.{cfaText}
 use Rattle.lines.specs.Lines.Laws.{sub-none}
 use native.Mathlib.Omega.{arith}
@@ -19,6 +19,9 @@ use Rattle.arm64.proofs.write.put_cfa.Tie as tie
 difference-requires : tie.Need-difference-requires
 difference-requires c κs = search needs
 
+cfa-name-requires : tie.Need-cfa-name-requires
+cfa-name-requires c κs = search needs
+
 put-rule-requires : tie.Need-put-rule-requires
 put-rule-requires c κs = search needs
 
@@ -26,18 +29,25 @@ same-length : tie.Need-same-length
 same-length c = search needs
 
 returns : tie.Need-returns
-unfolding cfaText formText ruleText ruleOf ruleName regName formOf
+unfolding cfaText formText ruleText ruleOf regName formOf
 returns c =
     let before-4 = c .before .before .before .before in
     let before-5 = before-4 .before in
-    let before-7 = before-5 .before .before in
-    let f : SFits w64 (before-4 .difference .result) = search needs in
-    rw (before-5 .if1 .taken) (put-as (c .before .before .put-rule .ensures)
-    (ap (λ (z : ℤ). ruleText (rule cfa (registerPlus (ascii ".sp") z))) (toZ-ofZ f ∙ before-4 .difference .ensures ∙ sub-none (before-7 .args .total))))
+    let before-6 = before-5 .before in
+    let f : SFits w64 (before-5 .difference .result) = search needs in
+    rw (before-6 .if1 .taken) (put-as (rw (before-4 .cfa-name .ensures) at (c .before .before .put-rule .ensures))
+    (ap (λ (z : ℤ). ruleText (rule cfa (registerPlus (ascii ".sp") z))) (toZ-ofZ f ∙ before-5 .difference .ensures ∙ sub-none (before-6 .before .before .args .total))))
 
 returns-2 : tie.Need-returns-2
 returns-2 c = rw (c .if1 .left) (put-none (omega arith) (omega arith))
 
 pub put-cfa-spec : {M : Type 1} → statement M
 put-cfa-spec =
-    tie.close (tie.spec difference-requires put-rule-requires same-length returns returns-2)
+    tie.close
+    (tie.spec
+    difference-requires
+    cfa-name-requires
+    put-rule-requires
+    same-length
+    returns
+    returns-2)

@@ -5,8 +5,9 @@ use mir.Syntax.{w64}
 use mir.Val.{SFits}
 use mir.Facts.{toZ-ofZ}
 use Rattle.text.specs.Text.Laws.{put-as}
+use Rattle.names.specs.Names.{nameText}
 use Rattle.lines.specs.Lines.{rule, atCfaPlus, formText, ruleText}
-use Rattle.lines.specs.Rules.{ruleOf, ruleName, formOf}
+use Rattle.lines.specs.Rules.{ruleOf, formOf}
 use borrow.Author.Needs.{needs}
 use Rattle.arm64.proofs.write.put_saved.Statement.{statement}
 use Rattle.arm64.proofs.write.put_saved.Tie as tie
@@ -26,7 +27,7 @@ returns c =
     let before-4 = c .before .before .before .before in
     let before-6 = before-4 .before .before in
     let f : SFits w64 (before-4 .difference .result) = search needs in
-    put-as (c .before .before .put-rule .ensures) (ap (λ (z : ℤ). ruleText (rule (ruleName (before-6 .args .name)) (atCfaPlus z))) (toZ-ofZ f ∙ before-4 .difference .ensures))
+    put-as (c .before .before .put-rule .ensures) (ap (λ (z : ℤ). ruleText (rule (nameText (before-6 .args .name)) (atCfaPlus z))) (toZ-ofZ f ∙ before-4 .difference .ensures))
 
 pub put-saved-spec : {M : Type 1} → statement M
 put-saved-spec = tie.close (tie.spec difference-requires put-rule-requires same-length returns)

@@ -11,7 +11,7 @@ use Rattle.text.specs.Text.{ascii}
 use Rattle.text.specs.Digits.{signed}
 use Rattle.names.specs.Names.{cfiName}
 use Rattle.lines.specs.Lines.{formText, ruleText}
-use Rattle.lines.specs.Rules.{ruleOf, ruleName, regName, formOf}
+use Rattle.lines.specs.Rules.{ruleOf, regName, formOf}
 use Rattle.dwarf.specs.Dwarf.{any, cfaBytes}
 use Rattle.dwarf.specs.Cache.{formatted}
 use borrow.Author.Needs.{needs}
@@ -27,16 +27,21 @@ both-requires c κs = search needs
 signed-of-requires : tie.Need-signed-of-requires
 signed-of-requires c κs = search needs
 
+cfa-name-requires : tie.Need-cfa-name-requires
+cfa-name-requires c κs = search needs
+
 returns : tie.Need-returns
-unfolding cfaBytes formatted ruleText formText ruleOf ruleName regName formOf
+unfolding cfaBytes formatted ruleText formText ruleOf regName formOf
 returns c =
-    let before-3 = c .before .before .before in
-    let before-4 = before-3 .before in
-    let a = before-4 .args in
-    let f : SFits w64 (c .signed-of .result) = search needs in
-    rw (c .before .both .ensures, before-3 .has-name .ensures)
+    let n = c .before .signed-of in
+    let named = c .before .before .before .before .has-name in
+    let a = c .before .before .before .before .before .args in
+    let f : SFits w64 (n .result) = search needs in
+    rw (c .before .before .both .ensures, named .ensures, c .cfa-name .ensures)
     (ap (λ (z : ℤ). cond (eqb (a .cfa .kind) 0 && any (cfiName (a .family) (a .cfa .register)))
-    (ascii " .cfa: " ++ cfiName (a .family) (a .cfa .register) ++ (ascii " " ++ signed z ++ ascii " +")) []) (toZ-ofZ f ∙ c .signed-of .ensures))
+    (ascii " .cfa: " ++ cfiName (a .family) (a .cfa .register) ++ (ascii " " ++ signed z ++ ascii " +")) []) (toZ-ofZ f ∙ n .ensures))
 
 pub format-cfa-spec : {M : Type 1} → statement M
-format-cfa-spec = tie.close (tie.spec has-name-requires both-requires signed-of-requires returns)
+format-cfa-spec =
+    tie.close
+    (tie.spec has-name-requires both-requires signed-of-requires cfa-name-requires returns)

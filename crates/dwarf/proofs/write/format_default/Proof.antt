@@ -1,6 +1,6 @@
 -- `format_default`: written for families 3 to 9 with a name.
 use Rattle.lines.specs.Lines.{formText, ruleText}
-use Rattle.lines.specs.Rules.{ruleOf, ruleName, regName, formOf}
+use Rattle.lines.specs.Rules.{ruleOf, regName, formOf}
 use Rattle.dwarf.specs.Dwarf.{raBytes}
 use Rattle.dwarf.specs.Cache.{formatted}
 use borrow.Author.Needs.{needs}
@@ -16,9 +16,13 @@ has-name-requires c κs = search needs
 both-requires-2 : tie.Need-both-requires-2
 both-requires-2 c κs = search needs
 
+ra-name-requires : tie.Need-ra-name-requires
+ra-name-requires c κs = search needs
+
 returns : tie.Need-returns
-unfolding raBytes formatted ruleText formText ruleOf ruleName regName formOf
-returns c = rw (c .both2 .ensures, c .before .before .both .ensures, c .before .has-name .ensures)
+unfolding raBytes formatted ruleText formText ruleOf regName formOf
+returns c = rw (c .before .both2 .ensures, c .before .before .before .both .ensures, c .before .before .has-name .ensures, c .ra-name .ensures)
 
 pub format-default-spec : {M : Type 1} → statement M
-format-default-spec = tie.close (tie.spec both-requires has-name-requires both-requires-2 returns)
+format-default-spec =
+    tie.close (tie.spec both-requires has-name-requires both-requires-2 ra-name-requires returns)

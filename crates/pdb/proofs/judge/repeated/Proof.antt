@@ -24,7 +24,7 @@ returns-3 c =
     rw (
       not-false (c8 .args .last .some) (c6 .if1 .left),
       eq-eqb (c8 .args .last .ty) (c8 .args .next .ty) (c3 .if2 .left),
-      ne-eqb (c8 .args .last .start) (c8 .args .next .start) (c .if3 .taken),
+      ne-eqb (c8 .args .last .start .0) (c8 .args .next .start .0) (c .if3 .taken),
     )
 
 returns-4 : tie.Need-returns-4
@@ -37,7 +37,7 @@ returns-4 c =
     rw (
       not-false (c11 .args .last .some) (c9 .if1 .left),
       eq-eqb (c11 .args .last .ty) (c11 .args .next .ty) (c6 .if2 .left),
-      eq-eqb (c11 .args .last .start) (c11 .args .next .start) (c3 .if3 .left),
+      eq-eqb (c11 .args .last .start .0) (c11 .args .next .start .0) (c3 .if3 .left),
       ne-eqb (c11 .args .last .«code_size») (c11 .args .next .«code_size») (c .if4 .taken),
     )
 
@@ -52,7 +52,7 @@ returns-5 c =
     rw (
       not-false (c13 .args .last .some) (c11 .if1 .left),
       eq-eqb (c13 .args .last .ty) (c13 .args .next .ty) (c8 .if2 .left),
-      eq-eqb (c13 .args .last .start) (c13 .args .next .start) (c5 .if3 .left),
+      eq-eqb (c13 .args .last .start .0) (c13 .args .next .start .0) (c5 .if3 .left),
       eq-eqb (c13 .args .last .«code_size») (c13 .args .next .«code_size») (c2 .if4 .left),
     )
 
