@@ -25,7 +25,10 @@ decimal-digit-requires-3 c κs = search needs
 returns-2 : tie.Need-returns-2
 unfolding nameText arm64Name
 returns-2 c =
-    two-digits (c .before .before .before .before .before .args .register) (c .before .before .before .before .letter-byte .ensures) (c .decimal-digit3 .ensures) (c .before .before .decimal-digit2 .ensures) (omega arith) (omega arith)
+    let ones = c .before .before in
+    let l = ones .before .before in
+    let n = l .before .args .register in
+    two-digits n (l .letter-byte .ensures) (c .decimal-digit3 .ensures) (ones .decimal-digit2 .ensures) (omega arith) (omega arith)
 
 decimal-digit-requires-4 : tie.Need-decimal-digit-requires-4
 decimal-digit-requires-4 c κs = search needs
@@ -36,7 +39,10 @@ decimal-digit-requires-5 c κs = search needs
 returns-3 : tie.Need-returns-3
 unfolding nameText arm64Name
 returns-3 c =
-    three-digits (c .before .before .before .before .before .before .args .register) (c .before .before .before .before .before .letter-byte .ensures) (c .decimal-digit5 .ensures) (c .before .decimal-digit4 .ensures) (c .before .before .before .decimal-digit2 .ensures) (omega arith) (omega arith)
+    let ones = c .before .before .before in
+    let l = ones .before .before in
+    let n = l .before .args .register in
+    three-digits n (l .letter-byte .ensures) (c .decimal-digit5 .ensures) (c .before .decimal-digit4 .ensures) (ones .decimal-digit2 .ensures) (omega arith) (omega arith)
 
 pub arm64-register-name-spec : {M : Type 1} → statement M
 arm64-register-name-spec =
