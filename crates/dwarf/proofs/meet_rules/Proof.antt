@@ -21,7 +21,9 @@ place-requires : tie.Need-place-requires Inv-loop μ-loop
 place-requires c κs = let l = c .before .before .before .before .before .loop .inv in omega (arith, l .few, l .long)
 
 returns : tie.Need-returns Inv-loop μ-loop
-returns c = meet-over (c .before .before .before .before .before .before .before .loop .inv) (search needs) (c .before .before .before .before .before .word .ensures) (c .before .place .ensures) (search needs)
+returns c =
+    let x = c .before .before .before .before .before in
+    meet-over (x .before .before .loop .inv) (search needs) (x .word .ensures) (c .before .place .ensures) (search needs)
 
 mul-met : tie.Need-mul-met Inv-loop μ-loop
 mul-met c = search needs
