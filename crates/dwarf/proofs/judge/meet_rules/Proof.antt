@@ -22,9 +22,8 @@ place-requires c κs = let l = c .before .before .before .before .before .loop .
 
 returns : tie.Need-returns Inv-loop μ-loop
 returns c =
-    let before-5 = c .before .before .before .before .before in
-    let before-7 = before-5 .before .before in
-    meet-over (before-7 .loop .inv) (search needs) (before-5 .word .ensures) (c .before .place .ensures) (search needs)
+    let x = c .before .before .before .before .before in
+    meet-over (x .before .before .loop .inv) (search needs) (x .word .ensures) (c .before .place .ensures) (search needs)
 
 mul-met : tie.Need-mul-met Inv-loop μ-loop
 mul-met c = search needs
