@@ -250,6 +250,9 @@ fn show_forms(name: Name, reg: Reg, x: i64) {
     show_rule(name, Form::AtCfaMinus(x));
 }
 
+// ".sp", packed
+const SP: u64 = 0x70732e;
+
 fn show_rules() {
     show_forms(lines::cfa_name(), Reg::Pe(4), 48);
     show_forms(lines::ra_name(), Reg::Sp, -8);
@@ -264,7 +267,7 @@ fn show_rules() {
         Reg::Arm64(1, 8),
         -9223372036854775808,
     );
-    show_forms(names::arm64_register_name(2, 255), Reg::Sp, 2147483647);
+    show_forms(names::name_of(SP), Reg::Arm64(2, 255), 2147483647);
 }
 
 // ---- beginnings of lines

@@ -24,7 +24,8 @@ sub-result : tie.Need-sub-result
 sub-result c = rw (toZ-pos w64 {n = c .args .a} (omega arith), toZ-pos w64 {n = c .args .b} (omega arith)) (search (needs, in-range))
 
 returns : tie.Need-returns
-returns c = simp (toZ-pos w64 {n = c .args .a} (omega arith), toZ-pos w64 {n = c .args .b} (omega arith)) (toZ-ofZ (in-range (c .args .a) (c .args .b) (omega arith) (omega arith)) ∙ sub-is (c .args .a) (c .args .b))
+returns c = simp (toZ-pos w64 {n = c .args .a} (omega arith), toZ-pos w64 {n = c .args .b} (omega arith))
+    (toZ-ofZ (in-range (c .args .a) (c .args .b) (omega arith) (omega arith)) ∙ sub-is (c .args .a) (c .args .b))
 
 pub difference-spec : {M : Type 1} → statement M
 difference-spec = tie.close (tie.spec cast-result cast-result-2 sub-result returns)

@@ -29,7 +29,8 @@ none-requires : tie.Need-none-requires Inv-loop μ-loop
 none-requires c κs = search needs
 
 -- the turn's body lies within the book
-inside : (c : tie.After-size-of Inv-loop μ-loop) → c .before .start-of .result + c .size-of .result ≤ length (c .before .before .before .before .before .before .before .before .before .before .args .book .now)
+inside : (c : tie.After-size-of Inv-loop μ-loop) → c .before .start-of .result + c .size-of .result ≤ length
+    (c .before .before .before .before .before .before .before .before .before .before .args .book .now)
 inside c =
     let s = c .before .before .before .before .before .before .before .before .before .before in
     let h : c .before .before .before .loop .i < count (s .args .book .now) = omega (arith, c .before .before .before .before .before .count-of .ensures) in
@@ -75,7 +76,11 @@ step-requires c κs =
     (omega (arith, l .inv .3), omega (arith, l .inv .4 .fits, put-length (l .inv .4 .put)))
 
 same-length : tie.Need-same-length Inv-loop μ-loop
-same-length c = search needs
+same-length c =
+    let step = c .before .before .before .before .before .step in
+    let before-12 = c .before .before .before .before .before .before .before .before .before .before .before .before in
+    let start = before-12 .before .before .before .before .before .before .before in
+    omega (arith, step .kept, before-12 .loop .inv .3, start .pre .1)
 
 same-length-2 : tie.Need-same-length-2 Inv-loop μ-loop
 same-length-2 c =

@@ -1,4 +1,7 @@
 -- `step`: the entry's number, 8, 9, or the copy, each by its law.
+use Prim.Native.Nat.{_<_}
+use lib.ListN.{length}
+use Rattle.text.specs.Text.{MAX}
 use Rattle.translate.specs.Outcome.{entryOf}
 use Rattle.translate.specs.Outcome.Laws.{refuses, too-long, no-room, copied}
 use native.Mathlib.Omega.{arith}
@@ -52,12 +55,14 @@ same-length-5 c = search needs
 
 returns-4 : tie.Need-returns-4
 returns-4 c =
+    let start = c .before .before .before .before .before .before .before .before .before .before .before .before .before .before .before .before in
+    let small : length (start .args .text .now) < MAX = omega arith in
     let if3 = c .before .before .before .before .before .if3 in
     let if2 = c .before .before .before .before .before .before .if2 in
     let if1 = c .before .before .before .before .before .before .before .if1 in
-    let args = c .before .before .before .before .before .before .before .before .before .before .before .before .before .before .before .before .args in
+    let args = start .args in
     copied {e = entryOf (args .kind) (args .limit) (args .last) (args .body .now)} (c .before .before .before .before .before .before .before .before .before .before .before .process .ensures)
-    (omega arith) (args .text .now) (args .used) (omega arith) (omega arith) (if1 .left) (if2 .left)
+    (omega arith) (args .text .now) (args .used) (omega arith) small (if1 .left) (if2 .left)
     (if3 .left) _ _ (c .before .before .copy .ensures)
 
 pub step-spec : {M : Type 1} → statement M
