@@ -37,9 +37,10 @@ same-length c = search needs
 returns-3 : tie.Need-returns-3
 unfolding dwarfEntry
 returns-3 c =
-    let before-4 = c .before .before .before .before in
-    let before-6 = before-4 .before .before in
-    rw (← before-6 .judge .ensures, before-4 .enum-told2 .given .1) (record { number-is = refl; next-is = refl; put = c .before .before .put-entry .ensures })
+    let judge = c .before .before .before .before .before .before .judge in
+    let enum-told2 = c .before .before .before .before .enum-told2 in
+    let put-entry = c .before .before .put-entry in
+    rw (← judge .ensures, enum-told2 .given .1) (record { number-is = refl; next-is = refl; put = put-entry .ensures })
 
 pub process-fde-spec : {M : Type 1} → statement M
 process-fde-spec =

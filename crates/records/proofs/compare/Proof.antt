@@ -21,9 +21,9 @@ returns-2 c = let a = c .before .before .before .before .before .before .args in
 returns-3 : tie.Need-returns-3
 unfolding comparedOf
 returns-3 c =
-    let before-3 = c .before .before .before in
-    let before-7 = before-3 .before .before .before .before in
-    let a = before-7 .args in simp (eq-eqb (a .a .number) 0 (before-3 .if1 .left), eq-eqb (a .b .number) 0 (c .before .if2 .left), ne-eqb (a .first) (a .second) (c .if3 .taken))
+    let args = c .before .before .before .before .before .before .before .args in
+    let if1 = c .before .before .before .if1 in
+    let a = args in simp (eq-eqb (a .a .number) 0 (if1 .left), eq-eqb (a .b .number) 0 (c .before .if2 .left), ne-eqb (a .first) (a .second) (c .if3 .taken))
 
 slice-aggregate-same : tie.Need-slice-aggregate-same
 slice-aggregate-same c = let a = c .before .before .before .before .before .before .before .before .args in sym (length-take-le (a .a .length) (a .x .now) (omega arith))
@@ -37,32 +37,32 @@ same-requires c κs = search needs
 returns-4 : tie.Need-returns-4
 unfolding comparedOf
 returns-4 c =
-    let before-4 = c .before .before .before .before in
-    let before-5 = before-4 .before in
-    let before-7 = before-5 .before .before in
-    let before-11 = before-7 .before .before .before .before in
-    let a = before-11 .args in
+    let args = c .before .before .before .before .before .before .before .before .before .before .before .args in
+    let if1 = c .before .before .before .before .before .before .before .if1 in
+    let if2 = c .before .before .before .before .before .if2 in
+    let if3 = c .before .before .before .before .if3 in
+    let a = args in
     let s = c .before .same in
     simp (
-      eq-eqb (a .a .number) 0 (before-7 .if1 .left),
-      eq-eqb (a .b .number) 0 (before-5 .if2 .left),
-      eq-eqb (a .first) (a .second) (before-4 .if3 .left),
+      eq-eqb (a .a .number) 0 (if1 .left),
+      eq-eqb (a .b .number) 0 (if2 .left),
+      eq-eqb (a .first) (a .second) (if3 .left),
       sym (eq-answer (s .result) (take (a .a .length) (a .x .now)) (take (a .b .length) (a .y .now)) (s .ensures .0) (s .ensures .1)) ∙ c .if4 .taken,
     )
 
 returns-5 : tie.Need-returns-5
 unfolding comparedOf
 returns-5 c =
-    let before-4 = c .before .before .before .before in
-    let before-5 = before-4 .before in
-    let before-7 = before-5 .before .before in
-    let before-11 = before-7 .before .before .before .before in
-    let a = before-11 .args in
+    let args = c .before .before .before .before .before .before .before .before .before .before .before .args in
+    let if1 = c .before .before .before .before .before .before .before .if1 in
+    let if2 = c .before .before .before .before .before .if2 in
+    let if3 = c .before .before .before .before .if3 in
+    let a = args in
     let s = c .before .same in
     simp (
-      eq-eqb (a .a .number) 0 (before-7 .if1 .left),
-      eq-eqb (a .b .number) 0 (before-5 .if2 .left),
-      eq-eqb (a .first) (a .second) (before-4 .if3 .left),
+      eq-eqb (a .a .number) 0 (if1 .left),
+      eq-eqb (a .b .number) 0 (if2 .left),
+      eq-eqb (a .first) (a .second) (if3 .left),
       sym (eq-answer (s .result) (take (a .a .length) (a .x .now)) (take (a .b .length) (a .y .now)) (s .ensures .0) (s .ensures .1)) ∙ c .if4 .left,
     )
 

@@ -33,14 +33,15 @@ same-length-4 c = search needs
 
 returns : tie.Need-returns
 returns c =
-    let before-3 = c .before .before .before in
-    let before-4 = before-3 .before in
-    let before-9 = before-4 .before .before .before .before .before in
-    let before-16 = before-9 .before .before .before .before .before .before .before in
-    let before-25 = before-16 .before .before .before .before .before .before .before .before .before in
-    let a = before-25 .args in
-    compares (a .book-a .now) (a .limit-a) (a .work-a .now) (a .text-a .now) (a .book-b .now) (a .limit-b) (a .work-b .now) (a .text-b .now) (before-16 .translate .ensures)
-    (before-9 .translate2 .ensures) (rw (before-4 .kind-of .ensures, before-3 .kind-of2 .ensures) at (c .compare .ensures))
+    let args = c .before .before .before .before .before .before .before .before .before .before .before .before .before .before .before
+    .before .before .before .before .before .before .before .before .before .before .args in
+    let translate = c .before .before .before .before .before .before .before .before .before .before .before .before .before .before .before .before .translate in
+    let translate2 = c .before .before .before .before .before .before .before .before .before .translate2 in
+    let kind-of = c .before .before .before .before .kind-of in
+    let kind-of2 = c .before .before .before .kind-of2 in
+    let a = args in
+    compares (a .book-a .now) (a .limit-a) (a .work-a .now) (a .text-a .now) (a .book-b .now) (a .limit-b) (a .work-b .now) (a .text-b .now) (translate .ensures)
+    (translate2 .ensures) (rw (kind-of .ensures, kind-of2 .ensures) at (c .compare .ensures))
 
 pub same-records-spec : {M : Type 1} → statement M
 same-records-spec =

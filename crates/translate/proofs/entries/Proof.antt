@@ -77,10 +77,11 @@ step-requires c κs =
 
 same-length : tie.Need-same-length Inv-loop μ-loop
 same-length c =
-    let step = c .before .before .before .before .before .step in
-    let before-12 = c .before .before .before .before .before .before .before .before .before .before .before .before in
-    let start = before-12 .before .before .before .before .before .before .before in
-    omega (arith, step .kept, before-12 .loop .inv .3, start .pre .1)
+    let loop = c .before .before .before .before .before .before .before .before .before .before .before .before .loop in
+    let step′ = c .before .before .before .before .before .step in
+    let step = step′ in
+    let start = c .before .before .before .before .before .before .before .before .before .before .before .before .before .before .before .before .before .before .before in
+    omega (arith, step .kept, loop .inv .3, start .pre .1)
 
 same-length-2 : tie.Need-same-length-2 Inv-loop μ-loop
 same-length-2 c =

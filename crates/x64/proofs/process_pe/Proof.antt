@@ -22,16 +22,16 @@ enum-told-2 c = search needs
 
 put-admitted-requires : tie.Need-put-admitted-requires
 put-admitted-requires c κs =
-    let before-3 = c .before .before .before in
-    let before-6 = before-3 .before .before .before in
-    admitted-fits (before-6 .args .limit) (before-6 .args .body .now) (sym (before-3 .admit .ensures) ∙ c .before .enum-told2 .given .1)
+    let args = c .before .before .before .before .before .before .args in
+    let admit = c .before .before .before .admit in
+    admitted-fits (args .limit) (args .body .now) (sym (admit .ensures) ∙ c .before .enum-told2 .given .1)
 
 returns : tie.Need-returns
 unfolding x64Entry
 returns c =
-    let before-3 = c .before .before .before in
-    let before-6 = before-3 .before .before .before in
-    rw (judged-by (before-6 .args .limit) (before-6 .args .body .now), ← before-3 .admit .ensures, c .before .judged .given .1)
+    let args = c .before .before .before .before .before .before .args in
+    let admit = c .before .before .before .admit in
+    rw (judged-by (args .limit) (args .body .now), ← admit .ensures, c .before .judged .given .1)
     (record { number-is = refl; next-is = refl; put = put-none (omega arith) (omega arith) })
 
 returns-2 : tie.Need-returns-2
@@ -46,10 +46,11 @@ same-length c = search needs
 returns-3 : tie.Need-returns-3
 unfolding x64Entry
 returns-3 c =
-    let before-4 = c .before .before .before .before in
-    let before-6 = before-4 .before .before in
-    let before-9 = before-6 .before .before .before in
-    rw (judged-by (before-9 .args .limit) (before-9 .args .body .now), ← before-6 .admit .ensures, before-4 .enum-told2 .given .1) (c .before .before .put-admitted .ensures)
+    let args = c .before .before .before .before .before .before .before .before .before .args in
+    let admit = c .before .before .before .before .before .before .admit in
+    let enum-told2 = c .before .before .before .before .enum-told2 in
+    let put-admitted = c .before .before .put-admitted in
+    rw (judged-by (args .limit) (args .body .now), ← admit .ensures, enum-told2 .given .1) (put-admitted .ensures)
 
 pub process-pe-spec : {M : Type 1} → statement M
 process-pe-spec =

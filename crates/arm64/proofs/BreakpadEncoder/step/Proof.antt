@@ -75,9 +75,10 @@ returns c = rw (c .before .before .op .given .1) (rw (c .before .before .before 
 returns-2 : tie.Need-returns-2
 unfolding Encoder·open
 returns-2 c =
-    let before-4 = c .before .before .before .before in
-    let before-5 = before-4 .before in
-    rw (c .before .before .op2 .given .1, add-zero (before-5 .args .self .«stack_size»)) (rw (before-4 .begin-instruction .ensures) at (c .save-indexed .ensures))
+    let args = c .before .before .before .before .before .args in
+    let begin-instruction = c .before .before .before .before .begin-instruction in
+    let op2 = c .before .before .op2 in
+    rw (op2 .given .1, add-zero (args .self .«stack_size»)) (rw (begin-instruction .ensures) at (c .save-indexed .ensures))
 
 returns-3 : tie.Need-returns-3
 unfolding Encoder·open
@@ -86,9 +87,10 @@ returns-3 c = rw (c .before .before .op3 .given .1) (rw (c .before .before .befo
 returns-4 : tie.Need-returns-4
 unfolding Encoder·open
 returns-4 c =
-    let before-4 = c .before .before .before .before in
-    let before-5 = before-4 .before in
-    rw (c .before .before .op4 .given .1, add-zero (before-5 .args .self .«stack_size»)) (rw (before-4 .begin-instruction .ensures) at (c .save-indexed-pair .ensures))
+    let args = c .before .before .before .before .before .args in
+    let begin-instruction = c .before .before .before .before .begin-instruction in
+    let op4 = c .before .before .op4 in
+    rw (op4 .given .1, add-zero (args .self .«stack_size»)) (rw (begin-instruction .ensures) at (c .save-indexed-pair .ensures))
 
 returns-5 : tie.Need-returns-5
 unfolding Encoder·open
@@ -97,16 +99,17 @@ returns-5 c = rw (c .before .before .op5 .given .1) (rw (c .before .before .befo
 returns-6 : tie.Need-returns-6
 unfolding Encoder·open
 returns-6 c =
-    let before-4 = c .before .before .before .before in
-    let before-5 = before-4 .before in
-    rw (c .before .before .op6 .given .1, add-zero (before-5 .args .self .«stack_size»)) (rw (before-4 .begin-instruction .ensures) at (c .save-indexed-reg-and-lr .ensures))
+    let args = c .before .before .before .before .before .args in
+    let begin-instruction = c .before .before .before .before .begin-instruction in
+    let op6 = c .before .before .op6 in
+    rw (op6 .given .1, add-zero (args .self .«stack_size»)) (rw (begin-instruction .ensures) at (c .save-indexed-reg-and-lr .ensures))
 
 returns-7 : tie.Need-returns-7
 unfolding Encoder·open
 returns-7 c =
-    let before-3 = c .before .before .before in
-    let before-4 = before-3 .before in
-    rw (c .before .enum-told .given .1, add-zero (before-4 .args .self .«stack_size»)) (rw (before-3 .begin-instruction .ensures) at (c .save-next-pair .ensures))
+    let args = c .before .before .before .before .args in
+    let begin-instruction = c .before .before .before .begin-instruction in
+    rw (c .before .enum-told .given .1, add-zero (args .self .«stack_size»)) (rw (begin-instruction .ensures) at (c .save-next-pair .ensures))
 
 returns-8 : tie.Need-returns-8
 unfolding Encoder·open

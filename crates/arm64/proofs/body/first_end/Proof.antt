@@ -38,12 +38,12 @@ word-requires-2 c κs = search needs
 
 returns : tie.Need-returns Inv-loop μ-loop
 returns c =
-    let before-3 = c .before .before .before in
-    let before-4 = before-3 .before in
-    let before-6 = before-4 .before .before in
-    let e : firstEnd (before-6 .args .body .now) (3 + 4 * before-3 .loop .i) (before-4 .word .result - before-3 .loop .i) ≡ 0 = first-end-step (before-6 .args .body .now)
-    (before-3 .loop .i) (before-4 .word .result) (search needs) ∙ rw (eq-eqb (word (before-6 .args .body .now) (3 + 4 * before-3 .loop .i)) 9 (sym (c .before .word2 .ensures) ∙ c .if1 .taken)) in
-    omega (arith, e, before-3 .loop .inv .2)
+    let args = c .before .before .before .before .before .before .args in
+    let loop = c .before .before .before .loop in
+    let word′ = c .before .before .before .before .word in
+    let e : firstEnd (args .body .now) (3 + 4 * loop .i) (word′ .result - loop .i) ≡ 0 = first-end-step (args .body .now)
+    (loop .i) (word′ .result) (search needs) ∙ rw (eq-eqb (word (args .body .now) (3 + 4 * loop .i)) 9 (sym (c .before .word2 .ensures) ∙ c .if1 .taken)) in
+    omega (arith, e, loop .inv .2)
 
 add-i : tie.Need-add-i Inv-loop μ-loop
 add-i c = search needs
@@ -53,14 +53,14 @@ loop-less c = search needs
 
 loop-again : tie.Need-loop-again Inv-loop μ-loop
 loop-again c =
-    let before-3 = c .before .before .before in
-    let before-4 = before-3 .before in
-    let before-6 = before-4 .before .before in
-    let e : firstEnd (before-6 .args .body .now) (3 + 4 * before-3 .loop .i) (before-4 .word .result - before-3 .loop .i) ≡ suc
-    (firstEnd (before-6 .args .body .now) (3 + 4 * (before-3 .loop .i + 1)) (before-4 .word .result - (before-3 .loop .i + 1)))
-    = first-end-step (before-6 .args .body .now) (before-3 .loop .i) (before-4 .word .result) (search needs)
-    ∙ rw (ne-eqb (word (before-6 .args .body .now) (3 + 4 * before-3 .loop .i)) 9 (λ q. c .if1 .left (c .before .word2 .ensures ∙ q))) in
-    (omega arith, search needs, omega (arith, e, before-3 .loop .inv .2))
+    let args = c .before .before .before .before .before .before .args in
+    let loop = c .before .before .before .loop in
+    let word′ = c .before .before .before .before .word in
+    let e : firstEnd (args .body .now) (3 + 4 * loop .i) (word′ .result - loop .i) ≡ suc
+    (firstEnd (args .body .now) (3 + 4 * (loop .i + 1)) (word′ .result - (loop .i + 1)))
+    = first-end-step (args .body .now) (loop .i) (word′ .result) (search needs)
+    ∙ rw (ne-eqb (word (args .body .now) (3 + 4 * loop .i)) 9 (λ q. c .if1 .left (c .before .word2 .ensures ∙ q))) in
+    (omega arith, search needs, omega (arith, e, loop .inv .2))
 
 returns-2 : tie.Need-returns-2 Inv-loop μ-loop
 unfolding firstEnd

@@ -23,10 +23,10 @@ saved-fits-requires c κs = search needs
 returns-3 : tie.Need-returns-3
 unfolding lineFits inside
 returns-3 c =
-    let before-5 = c .before .before .before .before .before in
+    let args = c .before .before .before .before .before .args in
     rw (
-      lt-ltb (before-5 .args .value) (2 ^ 31) (omega arith),
-      lt-ltb (before-5 .args .e .«stack_size») (2 ^ 31) (omega arith),
+      lt-ltb (args .value) (2 ^ 31) (omega arith),
+      lt-ltb (args .e .«stack_size») (2 ^ 31) (omega arith),
       sym (c .before .saved-fits .ensures)
           ∙ not-true (c .before .saved-fits .result) (c .if3 .taken),
     )
@@ -37,26 +37,28 @@ saved-fits-requires-2 c κs = search needs
 returns-4 : tie.Need-returns-4
 unfolding lineFits inside
 returns-4 c =
-    let before-3 = c .before .before .before in
-    let before-7 = before-3 .before .before .before .before in
+    let args = c .before .before .before .before .before .before .before .args in
+    let saved-fits = c .before .before .before .saved-fits in
+    let if3 = c .before .before .if3 in
     rw (
-      lt-ltb (before-7 .args .value) (2 ^ 31) (omega arith),
-      lt-ltb (before-7 .args .e .«stack_size») (2 ^ 31) (omega arith),
-      sym (before-3 .saved-fits .ensures)
-          ∙ not-false (before-3 .saved-fits .result) (c .before .before .if3 .left),
+      lt-ltb (args .value) (2 ^ 31) (omega arith),
+      lt-ltb (args .e .«stack_size») (2 ^ 31) (omega arith),
+      sym (saved-fits .ensures)
+          ∙ not-false (saved-fits .result) (if3 .left),
       sym (c .before .saved-fits2 .ensures) ∙ not-true (c .before .saved-fits2 .result) (c .if4 .taken),
     )
 
 returns-5 : tie.Need-returns-5
 unfolding lineFits inside
 returns-5 c =
-    let before-3 = c .before .before .before in
-    let before-7 = before-3 .before .before .before .before in
+    let args = c .before .before .before .before .before .before .before .args in
+    let saved-fits = c .before .before .before .saved-fits in
+    let if3 = c .before .before .if3 in
     rw (
-      lt-ltb (before-7 .args .value) (2 ^ 31) (omega arith),
-      lt-ltb (before-7 .args .e .«stack_size») (2 ^ 31) (omega arith),
-      sym (before-3 .saved-fits .ensures)
-          ∙ not-false (before-3 .saved-fits .result) (c .before .before .if3 .left),
+      lt-ltb (args .value) (2 ^ 31) (omega arith),
+      lt-ltb (args .e .«stack_size») (2 ^ 31) (omega arith),
+      sym (saved-fits .ensures)
+          ∙ not-false (saved-fits .result) (if3 .left),
       sym (c .before .saved-fits2 .ensures) ∙ not-false (c .before .saved-fits2 .result) (c .if4 .left),
     )
 

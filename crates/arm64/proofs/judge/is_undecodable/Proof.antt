@@ -27,19 +27,20 @@ word-requires-2 c κs = search needs
 
 returns : tie.Need-returns Inv-loop μ-loop
 returns c =
-    let before-3 = c .before .before .before in
-    let before-6 = before-3 .before .before .before in
-    sym (sym (before-3 .loop .inv .1) ∙ undecodable-step (before-6 .args .body .now) (before-3 .loop .a) (before-3 .loop .k) (search needs)
-    ∙ rw (eq-eqb (word (before-6 .args .body .now) (before-3 .loop .a)) 9 (sym (c .before .word2 .ensures) ∙ c .if1 .taken)))
+    let loop = c .before .before .before .loop in
+    let args = c .before .before .before .before .before .before .args in
+    sym (sym (loop .inv .1) ∙ undecodable-step (args .body .now) (loop .a) (loop .k) (search needs)
+    ∙ rw (eq-eqb (word (args .body .now) (loop .a)) 9 (sym (c .before .word2 .ensures) ∙ c .if1 .taken)))
 
 returns-2 : tie.Need-returns-2 Inv-loop μ-loop
 returns-2 c =
-    let before-4 = c .before .before .before .before in
-    let before-7 = before-4 .before .before .before in
-    sym (sym (before-4 .loop .inv .1) ∙ undecodable-step (before-7 .args .body .now) (before-4 .loop .a) (before-4 .loop .k) (search needs)
+    let loop = c .before .before .before .before .loop in
+    let args = c .before .before .before .before .before .before .before .args in
+    let word2 = c .before .before .word2 in
+    sym (sym (loop .inv .1) ∙ undecodable-step (args .body .now) (loop .a) (loop .k) (search needs)
     ∙ rw (
-      ne-eqb (word (before-7 .args .body .now) (before-4 .loop .a)) 9 (λ q. c .before .if1 .left (c .before .before .word2 .ensures ∙ q)),
-      eq-eqb (word (before-7 .args .body .now) (before-4 .loop .a)) 10 (sym (c .before .before .word2 .ensures) ∙ c .if2 .taken),
+      ne-eqb (word (args .body .now) (loop .a)) 9 (λ q. c .before .if1 .left (word2 .ensures ∙ q)),
+      eq-eqb (word (args .body .now) (loop .a)) 10 (sym (word2 .ensures) ∙ c .if2 .taken),
     ))
 
 add-a : tie.Need-add-a Inv-loop μ-loop
@@ -53,13 +54,14 @@ loop-less c = search needs
 
 loop-again : tie.Need-loop-again Inv-loop μ-loop
 loop-again c =
-    let before-4 = c .before .before .before .before in
-    let before-7 = before-4 .before .before .before in (
+    let loop = c .before .before .before .before .loop in
+    let args = c .before .before .before .before .before .before .before .args in
+    let word2 = c .before .before .word2 in (
       omega arith,
-      sym (sym (before-4 .loop .inv .1) ∙ undecodable-step (before-7 .args .body .now) (before-4 .loop .a) (before-4 .loop .k) (search needs)
+      sym (sym (loop .inv .1) ∙ undecodable-step (args .body .now) (loop .a) (loop .k) (search needs)
           ∙ rw (
-            ne-eqb (word (before-7 .args .body .now) (before-4 .loop .a)) 9 (λ q. c .before .if1 .left (c .before .before .word2 .ensures ∙ q)),
-            ne-eqb (word (before-7 .args .body .now) (before-4 .loop .a)) 10 (λ q. c .if2 .left (c .before .before .word2 .ensures ∙ q)),
+            ne-eqb (word (args .body .now) (loop .a)) 9 (λ q. c .before .if1 .left (word2 .ensures ∙ q)),
+            ne-eqb (word (args .body .now) (loop .a)) 10 (λ q. c .if2 .left (word2 .ensures ∙ q)),
           )),
     )
 

@@ -41,12 +41,13 @@ op-fits-requires c κs = search needs
 
 returns-2 : tie.Need-returns-2 Inv-loop μ-loop
 returns-2 c =
-    let before-3 = c .before .before .before in
-    let before-5 = before-3 .before .before in
-    let before-9 = before-5 .before .before .before .before in
-    and-no (opFits (word (before-9 .args .body .now) (before-5 .loop .a)) (word (before-9 .args .body .now) (before-5 .loop .a + 2))) _
-    (rw (before-3 .word2 .ensures, c .before .before .word3 .ensures) at (sym (c .before .op-fits .ensures) ∙ not-true (c .before .op-fits .result) (c .if2 .taken)))
-    ∙ sym (ops-fit-step (before-9 .args .body .now) (before-5 .loop .a) (before-5 .loop .k) (search needs)) ∙ before-5 .loop .inv .1
+    let args = c .before .before .before .before .before .before .before .before .before .args in
+    let loop = c .before .before .before .before .before .loop in
+    let word2 = c .before .before .before .word2 in
+    let word3 = c .before .before .word3 in
+    and-no (opFits (word (args .body .now) (loop .a)) (word (args .body .now) (loop .a + 2))) _
+    (rw (word2 .ensures, word3 .ensures) at (sym (c .before .op-fits .ensures) ∙ not-true (c .before .op-fits .result) (c .if2 .taken)))
+    ∙ sym (ops-fit-step (args .body .now) (loop .a) (loop .k) (search needs)) ∙ loop .inv .1
 
 add-a : tie.Need-add-a Inv-loop μ-loop
 add-a c = search needs
@@ -59,13 +60,14 @@ loop-less c = search needs
 
 loop-again : tie.Need-loop-again Inv-loop μ-loop
 loop-again c =
-    let before-3 = c .before .before .before in
-    let before-5 = before-3 .before .before in
-    let before-9 = before-5 .before .before .before .before in (
+    let args = c .before .before .before .before .before .before .before .before .before .args in
+    let loop = c .before .before .before .before .before .loop in
+    let word2 = c .before .before .before .word2 in
+    let word3 = c .before .before .word3 in (
       omega arith,
-      and-yes (opFits (word (before-9 .args .body .now) (before-5 .loop .a)) (word (before-9 .args .body .now) (before-5 .loop .a + 2))) _
-          (rw (before-3 .word2 .ensures, c .before .before .word3 .ensures) at (sym (c .before .op-fits .ensures) ∙ not-false (c .before .op-fits .result) (c .if2 .left)))
-          ∙ sym (ops-fit-step (before-9 .args .body .now) (before-5 .loop .a) (before-5 .loop .k) (search needs)) ∙ before-5 .loop .inv .1,
+      and-yes (opFits (word (args .body .now) (loop .a)) (word (args .body .now) (loop .a + 2))) _
+          (rw (word2 .ensures, word3 .ensures) at (sym (c .before .op-fits .ensures) ∙ not-false (c .before .op-fits .result) (c .if2 .left)))
+          ∙ sym (ops-fit-step (args .body .now) (loop .a) (loop .k) (search needs)) ∙ loop .inv .1,
     )
 
 returns-3 : tie.Need-returns-3 Inv-loop μ-loop

@@ -20,8 +20,8 @@ returns-3 c = rw (le-leb 2 (c .before .before .before .args .kind) (omega arith)
 returns-4 : tie.Need-returns-4
 unfolding opFits
 returns-4 c =
-    let before-3 = c .before .before .before in
-    rw (le-leb 2 (before-3 .args .kind) (omega arith), lt-leb (before-3 .args .kind) 6 (omega arith), le-leb 1 (before-3 .args .kind) (omega arith))
+    let args = c .before .before .before .args in
+    rw (le-leb 2 (args .kind) (omega arith), lt-leb (args .kind) 6 (omega arith), le-leb 1 (args .kind) (omega arith))
 
 pub op-fits-spec : {M : Type 1} → statement M
 op-fits-spec = tie.close (tie.spec returns returns-2 returns-3 returns-4)

@@ -59,10 +59,11 @@ fits-line-requires c κs = search needs
 
 returns : tie.Need-returns Inv-loop μ-loop
 returns c =
-    let before-3 = c .before .before .before in
-    let before-4 = before-3 .before in
-    let before-6 = before-4 .before .before in
-    scan-stop (before-6 .loop .inv) (search needs) (rw (c .before .before .value-of .ensures, before-3 .step .ensures, before-4 .op-at .ensures) at
+    let loop = c .before .before .before .before .before .before .loop in
+    let step = c .before .before .before .step in
+    let op-at = c .before .before .before .before .op-at in
+    let value-of = c .before .before .value-of in
+    scan-stop (loop .inv) (search needs) (rw (value-of .ensures, step .ensures, op-at .ensures) at
     (sym (c .before .fits-line .ensures) ∙ not-true (c .before .fits-line .result) (c .if1 .taken)))
 
 add-i : tie.Need-add-i Inv-loop μ-loop
@@ -73,11 +74,12 @@ loop-less c = search needs
 
 loop-again : tie.Need-loop-again Inv-loop μ-loop
 loop-again c =
-    let before-3 = c .before .before .before in
-    let before-4 = before-3 .before in
-    let before-6 = before-4 .before .before in
-    rw (before-3 .step .ensures, before-4 .op-at .ensures) (scan-turn (before-6 .loop .inv) (search needs)
-    (rw (c .before .before .value-of .ensures, before-3 .step .ensures, before-4 .op-at .ensures) at (sym (c .before .fits-line .ensures) ∙ not-false (c .before .fits-line .result) (c .if1 .left))))
+    let step = c .before .before .before .step in
+    let op-at = c .before .before .before .before .op-at in
+    let loop = c .before .before .before .before .before .before .loop in
+    let value-of = c .before .before .value-of in
+    rw (step .ensures, op-at .ensures) (scan-turn (loop .inv) (search needs)
+    (rw (value-of .ensures, step .ensures, op-at .ensures) at (sym (c .before .fits-line .ensures) ∙ not-false (c .before .fits-line .result) (c .if1 .left))))
 
 returns-2 : tie.Need-returns-2 Inv-loop μ-loop
 returns-2 c = scan-done (c .before .loop .inv) (search needs)

@@ -31,12 +31,14 @@ same-length c = search needs
 returns : tie.Need-returns
 unfolding cfaText formText ruleText ruleOf regName formOf
 returns c =
-    let before-4 = c .before .before .before .before in
-    let before-5 = before-4 .before in
-    let before-6 = before-5 .before in
-    let f : SFits w64 (before-5 .difference .result) = search needs in
-    rw (before-6 .if1 .taken) (put-as (rw (before-4 .cfa-name .ensures) at (c .before .before .put-rule .ensures))
-    (ap (λ (z : ℤ). ruleText (rule cfa (registerPlus (ascii ".sp") z))) (toZ-ofZ f ∙ before-5 .difference .ensures ∙ sub-none (before-6 .before .before .args .total))))
+    let difference = c .before .before .before .before .before .difference in
+    let if1 = c .before .before .before .before .before .before .if1 in
+    let cfa-name = c .before .before .before .before .cfa-name in
+    let args = c .before .before .before .before .before .before .before .before .args in
+    let put-rule = c .before .before .put-rule in
+    let f : SFits w64 (difference .result) = search needs in
+    rw (if1 .taken) (put-as (rw (cfa-name .ensures) at (put-rule .ensures))
+    (ap (λ (z : ℤ). ruleText (rule cfa (registerPlus (ascii ".sp") z))) (toZ-ofZ f ∙ difference .ensures ∙ sub-none (args .total))))
 
 returns-2 : tie.Need-returns-2
 returns-2 c = rw (c .if1 .left) (put-none (omega arith) (omega arith))

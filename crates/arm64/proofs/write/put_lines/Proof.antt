@@ -46,8 +46,9 @@ step-requires c κs = c .before .before .loop .inv .small
 
 put-line-requires : tie.Need-put-line-requires Inv-loop μ-loop
 put-line-requires c κs =
-    let before-4 = c .before .before .before .before in
-    (omega (arith, before-4 .loop .inv .few), rw (c .before .step .ensures, c .before .before .op-at .ensures) (line-small (before-4 .loop .inv) (search needs)))
+    let loop = c .before .before .before .before .loop in
+    let op-at = c .before .before .op-at in
+    (omega (arith, loop .inv .few), rw (c .before .step .ensures, op-at .ensures) (line-small (loop .inv) (search needs)))
 
 add-i : tie.Need-add-i Inv-loop μ-loop
 add-i c = search needs
@@ -57,13 +58,14 @@ loop-less c = search needs
 
 loop-again : tie.Need-loop-again Inv-loop μ-loop
 loop-again c =
-    let before-4 = c .before .before .before .before in
-    let before-5 = before-4 .before in
-    let before-7 = before-5 .before .before in
-    let before-9 = before-7 .before .before in
-    let before-10 = before-9 .before in
-    rw (before-4 .step .ensures, before-5 .op-at .ensures) (line-turn (before-7 .loop .inv) (search needs)
-    (rw (before-10 .word .ensures, before-9 .word2 .ensures, before-4 .step .ensures, before-5 .op-at .ensures) at (c .before .before .put-line .ensures)))
+    let step = c .before .before .before .before .step in
+    let op-at = c .before .before .before .before .before .op-at in
+    let loop = c .before .before .before .before .before .before .before .loop in
+    let word′ = c .before .before .before .before .before .before .before .before .before .before .word in
+    let word2 = c .before .before .before .before .before .before .before .before .before .word2 in
+    let put-line = c .before .before .put-line in
+    rw (step .ensures, op-at .ensures) (line-turn (loop .inv) (search needs)
+    (rw (word′ .ensures, word2 .ensures, step .ensures, op-at .ensures) at (put-line .ensures)))
 
 returns : tie.Need-returns Inv-loop μ-loop
 returns c = lines-done (c .before .loop .inv) (search needs)

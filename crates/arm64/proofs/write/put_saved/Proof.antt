@@ -24,10 +24,11 @@ same-length c = search needs
 returns : tie.Need-returns
 unfolding formText ruleText ruleOf formOf
 returns c =
-    let before-4 = c .before .before .before .before in
-    let before-6 = before-4 .before .before in
-    let f : SFits w64 (before-4 .difference .result) = search needs in
-    put-as (c .before .before .put-rule .ensures) (ap (λ (z : ℤ). ruleText (rule (nameText (before-6 .args .name)) (atCfaPlus z))) (toZ-ofZ f ∙ before-4 .difference .ensures))
+    let difference = c .before .before .before .before .difference in
+    let args = c .before .before .before .before .before .before .args in
+    let put-rule = c .before .before .put-rule in
+    let f : SFits w64 (difference .result) = search needs in
+    put-as (put-rule .ensures) (ap (λ (z : ℤ). ruleText (rule (nameText (args .name)) (atCfaPlus z))) (toZ-ofZ f ∙ difference .ensures))
 
 pub put-saved-spec : {M : Type 1} → statement M
 put-saved-spec = tie.close (tie.spec difference-requires put-rule-requires same-length returns)

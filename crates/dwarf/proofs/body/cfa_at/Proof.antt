@@ -29,11 +29,12 @@ word64-requires c κs = search needs
 returns : tie.Need-returns
 unfolding cfaAt
 returns c =
-    let before-3 = c .before .before .before in
-    let before-5 = before-3 .before .before in
+    let args = c .before .before .before .before .before .args in
+    let word′ = c .before .before .before .word in
+    let if1 = c .before .before .if1 in
     rw (
-      eq-eqb (word (before-5 .args .body .now) (before-5 .args .a + 4)) 0 (sym (before-3 .word .ensures) ∙ c .before .before .if1 .taken),
-      before-3 .word .ensures,
+      eq-eqb (word (args .body .now) (args .a + 4)) 0 (sym (word′ .ensures) ∙ if1 .taken),
+      word′ .ensures,
       c .before .word2 .ensures,
       c .word64 .ensures,
     )

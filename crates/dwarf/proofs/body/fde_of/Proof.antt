@@ -25,10 +25,11 @@ saturating-sub-requires c κs = search needs
 returns : tie.Need-returns
 unfolding fdeOf
 returns c =
-    let before-3 = c .before .before .before in
-    let before-4 = before-3 .before in
-    let before-5 = before-4 .before in
-    rw (c .saturating-sub .ensures, c .before .last-end .ensures, c .before .before .first-start .ensures, before-3 .word64 .ensures, before-4 .word2 .ensures, before-5 .word .ensures)
+    let word64 = c .before .before .before .word64 in
+    let word2 = c .before .before .before .before .word2 in
+    let word = c .before .before .before .before .before .word in
+    let first-start = c .before .before .first-start in
+    rw (c .saturating-sub .ensures, c .before .last-end .ensures, first-start .ensures, word64 .ensures, word2 .ensures, word .ensures)
 
 pub fde-of-spec : {M : Type 1} → statement M
 fde-of-spec =

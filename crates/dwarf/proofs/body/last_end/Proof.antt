@@ -55,11 +55,11 @@ loop-less c = search needs
 
 loop-again : tie.Need-loop-again Inv-loop μ-loop
 loop-again c =
-    let before-3 = c .before .before .before in
-    let before-6 = before-3 .before .before .before in
+    let loop = c .before .before .before .loop in
+    let args = c .before .before .before .before .before .before .args in
     rw (c .word2 .ensures, c .before .word64 .ensures) (
-      rest-turn (before-3 .loop .inv .0) (search needs),
-      sym (last-turn (before-6 .args .body .now) (before-3 .loop .end) (before-3 .loop .a) (before-3 .loop .m) (search needs)) ∙ before-3 .loop .inv .1,
+      rest-turn (loop .inv .0) (search needs),
+      sym (last-turn (args .body .now) (loop .end) (loop .a) (loop .m) (search needs)) ∙ loop .inv .1,
     )
 
 returns : tie.Need-returns Inv-loop μ-loop

@@ -34,11 +34,12 @@ both-requires c κs = search needs
 
 returns : tie.Need-returns Inv-loop μ-loop
 returns c =
-    let before-4 = c .before .before .before .before in
-    let before-7 = before-4 .before .before .before in
-    or-yes (not (eqb (wide (before-7 .args .body .now) (before-4 .loop .a)) (before-7 .args .first)) && ltb (wide (before-7 .args .body .now) (before-4 .loop .a)) (before-7 .args .load)) _
-    (rw (← c .before .before .word64 .ensures, ← c .before .both .ensures) (c .if1 .taken))
-    ∙ sym (below-turn (before-7 .args .body .now) (before-7 .args .first) (before-7 .args .load) (before-4 .loop .a) (before-4 .loop .m) (search needs)) ∙ before-4 .loop .inv .1
+    let args = c .before .before .before .before .before .before .before .args in
+    let loop = c .before .before .before .before .loop in
+    let word64 = c .before .before .word64 in
+    or-yes (not (eqb (wide (args .body .now) (loop .a)) (args .first)) && ltb (wide (args .body .now) (loop .a)) (args .load)) _
+    (rw (← word64 .ensures, ← c .before .both .ensures) (c .if1 .taken))
+    ∙ sym (below-turn (args .body .now) (args .first) (args .load) (loop .a) (loop .m) (search needs)) ∙ loop .inv .1
 
 add-a : tie.Need-add-a Inv-loop μ-loop
 add-a c = search needs
@@ -57,8 +58,8 @@ mul-a c = record { fits = omega (arith, rest-few (c .before .before .before .bef
 
 add-a-2 : tie.Need-add-a-2 Inv-loop μ-loop
 add-a-2 c =
-    let before-5 = c .before .before .before .before .before in
-    record { fits = omega (arith, rest-few (before-5 .loop .inv .0) (search needs), before-5 .loop .inv .0 .bound, c .word2 .ensures) }
+    let loop = c .before .before .before .before .before .loop in
+    record { fits = omega (arith, rest-few (loop .inv .0) (search needs), loop .inv .0 .bound, c .word2 .ensures) }
 
 sub-m : tie.Need-sub-m Inv-loop μ-loop
 sub-m c = search needs
@@ -68,14 +69,15 @@ loop-less c = search needs
 
 loop-again : tie.Need-loop-again Inv-loop μ-loop
 loop-again c =
-    let before-3 = c .before .before .before in
-    let before-5 = before-3 .before .before in
-    let before-8 = before-5 .before .before .before in
+    let loop = c .before .before .before .before .before .loop in
+    let args = c .before .before .before .before .before .before .before .before .args in
+    let word64 = c .before .before .before .word64 in
+    let both = c .before .before .both in
     rw (c .word2 .ensures) (
-      rest-turn (before-5 .loop .inv .0) (search needs),
-      or-no (not (eqb (wide (before-8 .args .body .now) (before-5 .loop .a)) (before-8 .args .first)) && ltb (wide (before-8 .args .body .now) (before-5 .loop .a)) (before-8 .args .load)) _
-          (rw (← before-3 .word64 .ensures, ← c .before .before .both .ensures) (c .before .if1 .left))
-          ∙ sym (below-turn (before-8 .args .body .now) (before-8 .args .first) (before-8 .args .load) (before-5 .loop .a) (before-5 .loop .m) (search needs)) ∙ before-5 .loop .inv .1,
+      rest-turn (loop .inv .0) (search needs),
+      or-no (not (eqb (wide (args .body .now) (loop .a)) (args .first)) && ltb (wide (args .body .now) (loop .a)) (args .load)) _
+          (rw (← word64 .ensures, ← both .ensures) (c .before .if1 .left))
+          ∙ sym (below-turn (args .body .now) (args .first) (args .load) (loop .a) (loop .m) (search needs)) ∙ loop .inv .1,
     )
 
 returns-2 : tie.Need-returns-2 Inv-loop μ-loop

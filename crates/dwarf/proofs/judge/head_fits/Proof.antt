@@ -20,9 +20,9 @@ word-requires-2 c κs = search needs
 returns-2 : tie.Need-returns-2
 unfolding headFits
 returns-2 c =
-    let before-3 = c .before .before .before in
-    let before-5 = before-3 .before .before in
-    rw (le-leb (word (before-5 .args .body .now) 0) 10 (omega (arith, before-3 .word .ensures)), le-ltb (word (before-5 .args .body .now) 5) 65536 (omega (arith, c .before .word2 .ensures)))
+    let args = c .before .before .before .before .before .args in
+    let word′ = c .before .before .before .word in
+    rw (le-leb (word (args .body .now) 0) 10 (omega (arith, word′ .ensures)), le-ltb (word (args .body .now) 5) 65536 (omega (arith, c .before .word2 .ensures)))
 
 word-requires-3 : tie.Need-word-requires-3
 word-requires-3 c κs = search needs
@@ -30,11 +30,12 @@ word-requires-3 c κs = search needs
 returns-3 : tie.Need-returns-3
 unfolding headFits
 returns-3 c =
-    let before-4 = c .before .before .before .before in
-    let before-6 = before-4 .before .before in
+    let args = c .before .before .before .before .before .before .args in
+    let word′ = c .before .before .before .before .word in
+    let word2 = c .before .before .word2 in
     rw (
-      le-leb (word (before-6 .args .body .now) 0) 10 (omega (arith, before-4 .word .ensures)),
-      lt-ltb (word (before-6 .args .body .now) 5) 65536 (omega (arith, c .before .before .word2 .ensures)),
+      le-leb (word (args .body .now) 0) 10 (omega (arith, word′ .ensures)),
+      lt-ltb (word (args .body .now) 5) 65536 (omega (arith, word2 .ensures)),
       c .word3 .ensures,
     )
 

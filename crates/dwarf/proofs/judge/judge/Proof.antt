@@ -21,14 +21,16 @@ skipped-requires c κs = search needs
 returns-2 : tie.Need-returns-2
 unfolding dwarfJudged
 returns-2 c =
-    let before-3 = c .before .before .before in
-    rw (sym (before-3 .layout .ensures) ∙ not-false (before-3 .layout .result) (c .before .before .if1 .left), sym (c .before .skipped .ensures) ∙ c .if2 .taken)
+    let layout = c .before .before .before .layout in
+    let if1 = c .before .before .if1 in
+    rw (sym (layout .ensures) ∙ not-false (layout .result) (if1 .left), sym (c .before .skipped .ensures) ∙ c .if2 .taken)
 
 reach-requires : tie.Need-reach-requires
 reach-requires c κs =
-    let before-3 = c .before .before .before in
-    let before-5 = before-3 .before .before in
-    let l : dwarfLayout (before-5 .args .body .now) ≡ true = sym (before-3 .layout .ensures) ∙ not-false (before-3 .layout .result) (c .before .before .if1 .left) in
+    let args = c .before .before .before .before .before .args in
+    let layout = c .before .before .before .layout in
+    let if1 = c .before .before .if1 in
+    let l : dwarfLayout (args .body .now) ≡ true = sym (layout .ensures) ∙ not-false (layout .result) (if1 .left) in
     rw l tt
 
 returns-3 : tie.Need-returns-3

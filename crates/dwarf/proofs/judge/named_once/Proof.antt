@@ -34,25 +34,27 @@ names-register-requires c κs = (omega (arith, c .before .before .loop .inv .0),
 
 returns : tie.Need-returns Inv-loop μ-loop
 returns c =
-    let before-4 = c .before .before .before .before in
-    let before-6 = before-4 .before .before in
-    and-no (not (member (word (before-6 .args .body .now) (before-4 .loop .a)) (registers (rulesFrom (before-6 .args .body .now) (before-4 .loop .k - 1) (before-4 .loop .a + 4))))) _
-    (rw (← c .before .before .word .ensures) (ap not (sym (c .before .names-register .ensures) ∙ c .if1 .taken)))
-    ∙ sym (once-turn (before-6 .args .body .now) (before-4 .loop .k) (before-4 .loop .a) (search needs)) ∙ before-4 .loop .inv .2
+    let args = c .before .before .before .before .before .before .args in
+    let loop = c .before .before .before .before .loop in
+    let word′ = c .before .before .word in
+    and-no (not (member (word (args .body .now) (loop .a)) (registers (rulesFrom (args .body .now) (loop .k - 1) (loop .a + 4))))) _
+    (rw (← word′ .ensures) (ap not (sym (c .before .names-register .ensures) ∙ c .if1 .taken)))
+    ∙ sym (once-turn (args .body .now) (loop .k) (loop .a) (search needs)) ∙ loop .inv .2
 
 loop-less : tie.Need-loop-less Inv-loop μ-loop
 loop-less c = search needs
 
 loop-again : tie.Need-loop-again Inv-loop μ-loop
 loop-again c =
-    let before-4 = c .before .before .before .before in
-    let before-6 = before-4 .before .before in (
+    let args = c .before .before .before .before .before .before .args in
+    let loop = c .before .before .before .before .loop in
+    let word′ = c .before .before .word in (
       omega arith,
       omega arith,
-      and-yes (not (member (word (before-6 .args .body .now) (before-4 .loop .a))
-          (registers (rulesFrom (before-6 .args .body .now) (before-4 .loop .k - 1) (before-4 .loop .a + 4))))) _
-          (rw (← c .before .before .word .ensures) (ap not (sym (c .before .names-register .ensures) ∙ c .if1 .left)))
-          ∙ sym (once-turn (before-6 .args .body .now) (before-4 .loop .k) (before-4 .loop .a) (search needs)) ∙ before-4 .loop .inv .2,
+      and-yes (not (member (word (args .body .now) (loop .a))
+          (registers (rulesFrom (args .body .now) (loop .k - 1) (loop .a + 4))))) _
+          (rw (← word′ .ensures) (ap not (sym (c .before .names-register .ensures) ∙ c .if1 .left)))
+          ∙ sym (once-turn (args .body .now) (loop .k) (loop .a) (search needs)) ∙ loop .inv .2,
     )
 
 returns-2 : tie.Need-returns-2 Inv-loop μ-loop

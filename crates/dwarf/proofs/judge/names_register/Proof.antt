@@ -26,11 +26,11 @@ word-requires c κs = search needs
 
 returns : tie.Need-returns Inv-loop μ-loop
 returns c =
-    let before-3 = c .before .before .before in
-    let before-5 = before-3 .before .before in
-    or-yes (eqb (word (before-5 .args .body .now) (before-3 .loop .a)) (before-5 .args .register)) _
-    (eq-eqb (word (before-5 .args .body .now) (before-3 .loop .a)) (before-5 .args .register) (sym (c .before .word .ensures) ∙ c .if1 .taken))
-    ∙ sym (member-turn (before-5 .args .body .now) (before-5 .args .register) (before-3 .loop .k) (before-3 .loop .a) (search needs)) ∙ before-3 .loop .inv .1
+    let args = c .before .before .before .before .before .args in
+    let loop = c .before .before .before .loop in
+    or-yes (eqb (word (args .body .now) (loop .a)) (args .register)) _
+    (eq-eqb (word (args .body .now) (loop .a)) (args .register) (sym (c .before .word .ensures) ∙ c .if1 .taken))
+    ∙ sym (member-turn (args .body .now) (args .register) (loop .k) (loop .a) (search needs)) ∙ loop .inv .1
 
 add-a : tie.Need-add-a Inv-loop μ-loop
 add-a c = search needs
@@ -43,12 +43,12 @@ loop-less c = search needs
 
 loop-again : tie.Need-loop-again Inv-loop μ-loop
 loop-again c =
-    let before-3 = c .before .before .before in
-    let before-5 = before-3 .before .before in (
+    let args = c .before .before .before .before .before .args in
+    let loop = c .before .before .before .loop in (
       omega arith,
-      or-no (eqb (word (before-5 .args .body .now) (before-3 .loop .a)) (before-5 .args .register)) _
-          (ne-eqb (word (before-5 .args .body .now) (before-3 .loop .a)) (before-5 .args .register) (λ e. c .if1 .left (c .before .word .ensures ∙ e)))
-          ∙ sym (member-turn (before-5 .args .body .now) (before-5 .args .register) (before-3 .loop .k) (before-3 .loop .a) (search needs)) ∙ before-3 .loop .inv .1,
+      or-no (eqb (word (args .body .now) (loop .a)) (args .register)) _
+          (ne-eqb (word (args .body .now) (loop .a)) (args .register) (λ e. c .if1 .left (c .before .word .ensures ∙ e)))
+          ∙ sym (member-turn (args .body .now) (args .register) (loop .k) (loop .a) (search needs)) ∙ loop .inv .1,
     )
 
 returns-2 : tie.Need-returns-2 Inv-loop μ-loop

@@ -29,22 +29,22 @@ any-below-requires c κs = search needs
 returns-2 : tie.Need-returns-2
 unfolding dwarfReach
 returns-2 c =
-    let before-4 = c .before .before .before .before in
-    let c4 = before-4 in
+    let word64 = c .before .before .word64 in
+    let c4 = c .before .before .before .before in
     let c5 = c4 .before in
     let ws = c5 .before .before .args .body .now in
-    let below : anyBelow (firstStart (rows ws)) (loadAddress ws) (rows ws) ≡ true = rw (c5 .first-start .ensures, c .before .before .word64 .ensures) at
+    let below : anyBelow (firstStart (rows ws)) (loadAddress ws) (rows ws) ≡ true = rw (c5 .first-start .ensures, word64 .ensures) at
     (sym (c .before .any-below .ensures) ∙ c .if2 .taken) in
     rw (le-ltb (lastEnd 0 (rows ws)) (firstStart (rows ws)) (omega (arith, c4 .last-end .ensures, c5 .first-start .ensures)), below)
 
 returns-3 : tie.Need-returns-3
 unfolding dwarfReach
 returns-3 c =
-    let before-4 = c .before .before .before .before in
-    let c4 = before-4 in
+    let word64 = c .before .before .word64 in
+    let c4 = c .before .before .before .before in
     let c5 = c4 .before in
     let ws = c5 .before .before .args .body .now in
-    let below : anyBelow (firstStart (rows ws)) (loadAddress ws) (rows ws) ≡ false = rw (c5 .first-start .ensures, c .before .before .word64 .ensures) at
+    let below : anyBelow (firstStart (rows ws)) (loadAddress ws) (rows ws) ≡ false = rw (c5 .first-start .ensures, word64 .ensures) at
     (sym (c .before .any-below .ensures) ∙ c .if2 .left) in
     rw (le-ltb (lastEnd 0 (rows ws)) (firstStart (rows ws)) (omega (arith, c4 .last-end .ensures, c5 .first-start .ensures)), below)
 

@@ -35,15 +35,16 @@ word-requires-3 c κs = search needs
 returns-2 : tie.Need-returns-2
 unfolding rowFits cfaFits
 returns-2 c =
-    let before-3 = c .before .before .before in
-    let before-4 = before-3 .before in
-    let before-5 = before-4 .before in
-    let before-7 = before-5 .before .before in
+    let word = c .before .before .before .before .before .word in
+    let word2 = c .before .before .before .before .word2 in
+    let cfa-fits = c .before .before .before .cfa-fits in
+    let args = c .before .before .before .before .before .before .before .args in
+    let if1 = c .before .before .if1 in
     rw (
-      ← before-5 .word .ensures,
-      ← before-4 .word2 .ensures,
-      sym (before-3 .cfa-fits .ensures) ∙ not-false (before-3 .cfa-fits .result) (c .before .before .if1 .left),
-      lt-leb (ruleCount (before-7 .args .body .now) (before-7 .args .a)) 64 (omega (arith, c .before .word3 .ensures)),
+      ← word .ensures,
+      ← word2 .ensures,
+      sym (cfa-fits .ensures) ∙ not-false (cfa-fits .result) (if1 .left),
+      lt-leb (ruleCount (args .body .now) (args .a)) 64 (omega (arith, c .before .word3 .ensures)),
     )
 
 add-rules-fit : tie.Need-add-rules-fit
@@ -58,18 +59,18 @@ rules-fit-requires c κs = search needs
 returns-3 : tie.Need-returns-3
 unfolding rowFits cfaFits
 returns-3 c =
-    let before-3 = c .before .before .before in
-    let before-4 = before-3 .before in
-    let before-5 = before-4 .before in
-    let before-6 = before-5 .before in
-    let before-7 = before-6 .before in
-    let before-9 = before-7 .before .before in
+    let word = c .before .before .before .before .before .before .before .word in
+    let word2 = c .before .before .before .before .before .before .word2 in
+    let cfa-fits = c .before .before .before .before .before .cfa-fits in
+    let if1 = c .before .before .before .before .if1 in
+    let args = c .before .before .before .before .before .before .before .before .before .args in
+    let word3 = c .before .before .before .word3 in
     rw (
-      ← before-7 .word .ensures,
-      ← before-6 .word2 .ensures,
-      sym (before-5 .cfa-fits .ensures) ∙ not-false (before-5 .cfa-fits .result) (before-4 .if1 .left),
-      le-leb (ruleCount (before-9 .args .body .now) (before-9 .args .a)) 64 (omega (arith, before-3 .word3 .ensures)),
-      ← before-3 .word3 .ensures,
+      ← word .ensures,
+      ← word2 .ensures,
+      sym (cfa-fits .ensures) ∙ not-false (cfa-fits .result) (if1 .left),
+      le-leb (ruleCount (args .body .now) (args .a)) 64 (omega (arith, word3 .ensures)),
+      ← word3 .ensures,
       sym (c .before .rules-fit .ensures)
           ∙ not-true (c .before .rules-fit .result) (c .if3 .taken),
     )
@@ -86,19 +87,20 @@ named-once-requires c κs = search needs
 returns-4 : tie.Need-returns-4
 unfolding rowFits cfaFits
 returns-4 c =
-    let before-4 = c .before .before .before .before in
-    let before-5 = before-4 .before in
-    let before-6 = before-5 .before in
-    let before-7 = before-6 .before in
-    let before-8 = before-7 .before in
-    let before-10 = before-8 .before .before in
+    let word = c .before .before .before .before .before .before .before .before .word in
+    let word2 = c .before .before .before .before .before .before .before .word2 in
+    let cfa-fits = c .before .before .before .before .before .before .cfa-fits in
+    let if1 = c .before .before .before .before .before .if1 in
+    let args = c .before .before .before .before .before .before .before .before .before .before .args in
+    let word3 = c .before .before .before .before .word3 in
+    let rules-fit = c .before .before .rules-fit in
     rw (
-      ← before-8 .word .ensures,
-      ← before-7 .word2 .ensures,
-      sym (before-6 .cfa-fits .ensures) ∙ not-false (before-6 .cfa-fits .result) (before-5 .if1 .left),
-      le-leb (ruleCount (before-10 .args .body .now) (before-10 .args .a)) 64 (omega (arith, before-4 .word3 .ensures)),
-      ← before-4 .word3 .ensures,
-      sym (c .before .before .rules-fit .ensures) ∙ not-false (c .before .before .rules-fit .result) (c .before .if3 .left),
+      ← word .ensures,
+      ← word2 .ensures,
+      sym (cfa-fits .ensures) ∙ not-false (cfa-fits .result) (if1 .left),
+      le-leb (ruleCount (args .body .now) (args .a)) 64 (omega (arith, word3 .ensures)),
+      ← word3 .ensures,
+      sym (rules-fit .ensures) ∙ not-false (rules-fit .result) (c .before .if3 .left),
     ) (c .named-once .ensures)
 
 pub row-fits-spec : {M : Type 1} → statement M

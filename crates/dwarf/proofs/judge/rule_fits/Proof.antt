@@ -32,9 +32,10 @@ kind-fits-requires c κs = search needs
 returns-2 : tie.Need-returns-2
 unfolding ruleFits
 returns-2 c =
-    let before-4 = c .before .before .before .before in
-    let before-6 = before-4 .before .before in
-    rw (lt-ltb (word (before-6 .args .body .now) (before-6 .args .a)) 65536 (omega (arith, before-4 .word .ensures)), ← c .before .before .word2 .ensures, ← c .before .word64 .ensures)
+    let args = c .before .before .before .before .before .before .args in
+    let word′ = c .before .before .before .before .word in
+    let word2 = c .before .before .word2 in
+    rw (lt-ltb (word (args .body .now) (args .a)) 65536 (omega (arith, word′ .ensures)), ← word2 .ensures, ← c .before .word64 .ensures)
     (c .kind-fits .ensures)
 
 pub rule-fits-spec : {M : Type 1} → statement M

@@ -24,10 +24,10 @@ rule-fits-requires c κs = search needs
 
 returns : tie.Need-returns Inv-loop μ-loop
 returns c =
-    let before-3 = c .before .before .before in
-    let before-5 = before-3 .before .before in
-    and-no (ruleFits (before-5 .args .body .now) (before-3 .loop .a)) _ (sym (c .before .rule-fits .ensures) ∙ not-true (c .before .rule-fits .result) (c .if1 .taken))
-    ∙ sym (rules-fit-step (before-5 .args .body .now) (before-3 .loop .k) (before-3 .loop .a) (search needs)) ∙ before-3 .loop .inv .1
+    let args = c .before .before .before .before .before .args in
+    let loop = c .before .before .before .loop in
+    and-no (ruleFits (args .body .now) (loop .a)) _ (sym (c .before .rule-fits .ensures) ∙ not-true (c .before .rule-fits .result) (c .if1 .taken))
+    ∙ sym (rules-fit-step (args .body .now) (loop .k) (loop .a) (search needs)) ∙ loop .inv .1
 
 add-a : tie.Need-add-a Inv-loop μ-loop
 add-a c = search needs
@@ -40,11 +40,11 @@ loop-less c = search needs
 
 loop-again : tie.Need-loop-again Inv-loop μ-loop
 loop-again c =
-    let before-3 = c .before .before .before in
-    let before-5 = before-3 .before .before in (
+    let args = c .before .before .before .before .before .args in
+    let loop = c .before .before .before .loop in (
       omega arith,
-      and-yes (ruleFits (before-5 .args .body .now) (before-3 .loop .a)) _ (sym (c .before .rule-fits .ensures) ∙ not-false (c .before .rule-fits .result) (c .if1 .left))
-          ∙ sym (rules-fit-step (before-5 .args .body .now) (before-3 .loop .k) (before-3 .loop .a) (search needs)) ∙ before-3 .loop .inv .1,
+      and-yes (ruleFits (args .body .now) (loop .a)) _ (sym (c .before .rule-fits .ensures) ∙ not-false (c .before .rule-fits .result) (c .if1 .left))
+          ∙ sym (rules-fit-step (args .body .now) (loop .k) (loop .a) (search needs)) ∙ loop .inv .1,
     )
 
 returns-2 : tie.Need-returns-2 Inv-loop μ-loop

@@ -19,11 +19,12 @@ word-requires c κs = search needs
 returns-2 : tie.Need-returns-2
 unfolding dwarfSkipped
 returns-2 c =
-    let before-3 = c .before .before .before in
-    let before-5 = before-3 .before .before in
+    let args = c .before .before .before .before .before .args in
+    let word64 = c .before .before .before .word64 in
+    let if1 = c .before .before .if1 in
     rw (
-      ne-eqb (wide (before-5 .args .body .now) 1) 18446744073709551615 (λ e. c .before .before .if1 .left (before-3 .word64 .ensures ∙ e)),
-      eq-eqb (rowCount (before-5 .args .body .now)) 0 (sym (c .before .word .ensures) ∙ c .if2 .taken),
+      ne-eqb (wide (args .body .now) 1) 18446744073709551615 (λ e. if1 .left (word64 .ensures ∙ e)),
+      eq-eqb (rowCount (args .body .now)) 0 (sym (c .before .word .ensures) ∙ c .if2 .taken),
     )
 
 first-start-requires : tie.Need-first-start-requires
@@ -35,13 +36,14 @@ word64-requires-2 c κs = search needs
 returns-3 : tie.Need-returns-3
 unfolding dwarfSkipped
 returns-3 c =
-    let before-3 = c .before .before .before in
-    let before-4 = before-3 .before in
-    let before-5 = before-4 .before in
-    let before-7 = before-5 .before .before in
+    let args = c .before .before .before .before .before .before .before .args in
+    let if1 = c .before .before .before .before .if1 in
+    let word64 = c .before .before .before .before .before .word64 in
+    let word = c .before .before .before .word in
+    let if2 = c .before .before .if2 in
     rw (
-      ne-eqb (wide (before-7 .args .body .now) 1) 18446744073709551615 (λ e. before-4 .if1 .left (before-5 .word64 .ensures ∙ e)),
-      ne-eqb (rowCount (before-7 .args .body .now)) 0 (λ e. c .before .before .if2 .left (before-3 .word .ensures ∙ e)),
+      ne-eqb (wide (args .body .now) 1) 18446744073709551615 (λ e. if1 .left (word64 .ensures ∙ e)),
+      ne-eqb (rowCount (args .body .now)) 0 (λ e. if2 .left (word .ensures ∙ e)),
       ← c .before .first-start .ensures,
       ← c .word642 .ensures,
     )

@@ -22,10 +22,11 @@ same-length c = search needs
 returns : tie.Need-returns
 unfolding defaultBytes
 returns c =
-    let before-3 = c .before .before .before in
-    let before-5 = before-3 .before .before in
-    let before-6 = before-5 .before in
-    put-taken _ _ _ (sym (before-6 .both .ensures) ∙ before-5 .if1 .taken) (before-3 .format-default .ensures) (c .before .before .put-formatted .ensures)
+    let both = c .before .before .before .before .before .before .both in
+    let if1 = c .before .before .before .before .before .if1 in
+    let format-default = c .before .before .before .format-default in
+    let put-formatted = c .before .before .put-formatted in
+    put-taken _ _ _ (sym (both .ensures) ∙ if1 .taken) (format-default .ensures) (put-formatted .ensures)
 
 returns-2 : tie.Need-returns-2
 unfolding defaultBytes

@@ -16,9 +16,10 @@ put-rows-requires c κs = search needs
 returns : tie.Need-returns
 unfolding dwarfText
 returns c =
-    let before-4 = c .before .before .before .before in
-    let before-7 = before-4 .before .before .before in
-    put-as (c .before .before .put-rows .ensures) (ap (λ (e : Fde). ranRows e noCfa nothingSeen (rows (before-7 .args .body .now))) (before-4 .fde-of .ensures))
+    let args = c .before .before .before .before .before .before .before .args in
+    let fde-of = c .before .before .before .before .fde-of in
+    let put-rows = c .before .before .put-rows in
+    put-as (put-rows .ensures) (ap (λ (e : Fde). ranRows e noCfa nothingSeen (rows (args .body .now))) (fde-of .ensures))
 
 same-length : tie.Need-same-length
 same-length c = put-length (returns c)

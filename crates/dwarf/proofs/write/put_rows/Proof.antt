@@ -24,8 +24,8 @@ cast-m c = search needs
 
 loop-holds : tie.Need-loop-holds Inv-loop μ-loop
 loop-holds c =
-    let before-4 = c .before .before .before .before in
-    rw (c .word .ensures) (lines-all (before-4 .pre) (c .before .start-state .ensures .0) (c .before .start-state .ensures .1) (c .before .start-state .ensures .2) (omega arith) (omega arith))
+    let pre = c .before .before .before .before .pre in
+    rw (c .word .ensures) (lines-all (pre) (c .before .start-state .ensures .0) (c .before .start-state .ensures .1) (c .before .start-state .ensures .2) (omega arith) (omega arith))
 
 put-row-requires : tie.Need-put-row-requires Inv-loop μ-loop
 put-row-requires c κs = (
@@ -52,8 +52,8 @@ mul-a c = record { fits = omega (arith, rest-few (c .before .before .before .bef
 
 add-a-2 : tie.Need-add-a-2 Inv-loop μ-loop
 add-a-2 c =
-    let before-7 = c .before .before .before .before .before .before .before in
-    record { fits = omega (arith, rest-few (before-7 .loop .inv .rest) (search needs), before-7 .loop .inv .rest .bound, c .word2 .ensures) }
+    let loop = c .before .before .before .before .before .before .before .loop in
+    record { fits = omega (arith, rest-few (loop .inv .rest) (search needs), loop .inv .rest .bound, c .word2 .ensures) }
 
 sub-m : tie.Need-sub-m Inv-loop μ-loop
 sub-m c = search needs
@@ -63,9 +63,9 @@ loop-less c = search needs
 
 loop-again : tie.Need-loop-again Inv-loop μ-loop
 loop-again c =
-    let before-4 = c .before .before .before .before in
-    let before-7 = before-4 .before .before .before in
-    rw (c .word2 .ensures) (lines-turn (before-7 .loop .inv) (search needs) (before-4 .put-row .ensures .0) (before-4 .put-row .ensures .1))
+    let loop = c .before .before .before .before .before .before .before .loop in
+    let put-row = c .before .before .before .before .put-row in
+    rw (c .word2 .ensures) (lines-turn (loop .inv) (search needs) (put-row .ensures .0) (put-row .ensures .1))
 
 returns : tie.Need-returns Inv-loop μ-loop
 returns c = lines-done (c .before .loop .inv) (search needs)

@@ -33,9 +33,9 @@ place-requires c κs = omega (arith, c .before .before .before .before .before .
 
 element-copy-out-both : tie.Need-element-copy-out-both Inv-loop μ-loop
 element-copy-out-both c =
-    let before-4 = c .before .before .before .before in
-    let before-6 = before-4 .before .before in
-    put-place (before-6 .loop .inv .0) (search needs) (before-4 .rule-at .ensures) (search needs) (c .place .ensures)
+    let loop = c .before .before .before .before .before .before .loop in
+    let rule-at = c .before .before .before .before .rule-at in
+    put-place (loop .inv .0) (search needs) (rule-at .ensures) (search needs) (c .place .ensures)
 
 mul-both : tie.Need-mul-both Inv-loop μ-loop
 mul-both c = record { fits = omega (arith, element-copy-out-both c) }
@@ -66,31 +66,34 @@ loop-less c = search needs
 
 loop-again : tie.Need-loop-again Inv-loop μ-loop
 loop-again c =
-    let before-4 = c .before .before .before .before in
-    let before-5 = before-4 .before in
-    let before-10 = before-5 .before .before .before .before .before in
-    let before-14 = before-10 .before .before .before .before in
-    let before-16 = before-14 .before .before in
-    let before-19 = before-16 .before .before .before in
-    let s = before-19 .args .t8 in
-    let x = before-14 .rule-at .result in
+    let args = c .before .before .before .before .before .before .before .before .before .before .before .before .before .before .before .before .before .before .before .args in
+    let rule-at = c .before .before .before .before .before .before .before .before .before .before .before .before .before .before .rule-at in
+    let loop = c .before .before .before .before .before .before .before .before .before .before .before .before .before .before .before .before .loop in
+    let place = c .before .before .before .before .before .before .before .before .before .before .place in
+    let both = c .before .before .before .before .before .both in
+    let both2 = c .before .before .before .before .both2 in
+    let write-register-rule = c .before .before .write-register-rule in
+    let more = c .before .before .before .before .before .before .before .before .before .before .before .before .before .before .before .loop-test .taken in
+    let s = args .t8 in
+    let x = rule-at .result in
     let lr : length (s .register) ≡ 64 = search needs in
-    let lk : length (s .kind) ≡ 64 = before-16 .loop .inv .2 in
-    let lv : length (s .value) ≡ 64 = before-16 .loop .inv .3 in
-    let room = put-room (before-16 .loop .inv .0) (search needs) (before-14 .rule-at .ensures) in
-    let changed = change-is s (x .register) (x .kind) (x .value) lr lk lv room (before-10 .place .ensures) (before-5 .both .ensures) (before-4 .both2 .ensures) in (
-      put-turn (before-16 .loop .inv .0) (search needs) (before-14 .rule-at .ensures)
-          (put-as (c .before .before .write-register-rule .ensures) (ap (λ (t : Bool). cond t (ruleBytes (before-19 .args .family) (before-19 .args .ra) x) []) changed)),
-      before-16 .loop .inv .1,
+    let lk : length (s .kind) ≡ 64 = loop .inv .2 in
+    let lv : length (s .value) ≡ 64 = loop .inv .3 in
+    let room = put-room (loop .inv .0) more (rule-at .ensures) in
+    let changed = change-is s (x .register) (x .kind) (x .value) lr lk lv room (place .ensures) (both .ensures) (both2 .ensures) in (
+      put-turn (loop .inv .0) more (rule-at .ensures)
+          (put-as (write-register-rule .ensures) (ap (λ (t : Bool). cond t (ruleBytes (args .family) (args .ra) x) []) changed)),
+      loop .inv .1,
       lk,
       lv,
     )
 
 returns : tie.Need-returns Inv-loop μ-loop
 returns c =
-    let before-4 = c .before .before .before .before in
+    let args = c .before .before .before .before .args in
+    let pre = c .before .before .before .before .pre in
     put-as (put-done (c .before .loop .inv .0) (search needs))
-    (sym (ran-row (before-4 .args .family) (before-4 .args .ra) (lookup (before-4 .args .t8)) (rulesFrom (before-4 .args .body .now) (before-4 .args .n) (before-4 .args .from)) (before-4 .pre .3)))
+    (sym (ran-row (args .family) (args .ra) (lookup (args .t8)) (rulesFrom (args .body .now) (args .n) (args .from)) (pre .3)))
 
 same-length : tie.Need-same-length Inv-loop μ-loop
 same-length c = put-length (returns c)

@@ -29,10 +29,10 @@ signed-of-requires c κs = search needs
 returns-2 : tie.Need-returns-2
 unfolding any formBytes formed formText formOf
 returns-2 c =
-    let before-3 = c .before .before .before in
-    let before-5 = before-3 .before .before in
+    let args = c .before .before .before .before .before .args in
+    let if1 = c .before .before .before .if1 in
     let f : SFits w64 (c .signed-of .result) = search needs in
-    rw (ne-eqb (before-5 .args .rule .kind) 0 (before-3 .if1 .left), eq-eqb (before-5 .args .rule .kind) 1 (c .before .if2 .taken)) (record {
+    rw (ne-eqb (args .rule .kind) 0 (if1 .left), eq-eqb (args .rule .kind) 1 (c .before .if2 .taken)) (record {
       some-is = refl;
       bytes-are = ap (λ (z : ℤ). ascii ".cfa " ++ signed z ++ ascii " + ^") (toZ-ofZ f ∙ c .signed-of .ensures);
     })
@@ -43,14 +43,14 @@ signed-of-requires-2 c κs = search needs
 returns-3 : tie.Need-returns-3
 unfolding any formBytes formed formText formOf
 returns-3 c =
-    let before-3 = c .before .before .before in
-    let before-5 = before-3 .before .before in
-    let before-7 = before-5 .before .before in
+    let args = c .before .before .before .before .before .before .before .args in
+    let if1 = c .before .before .before .before .before .if1 in
+    let if2 = c .before .before .before .if2 in
     let f : SFits w64 (c .signed-of2 .result) = search needs in
     rw (
-      ne-eqb (before-7 .args .rule .kind) 0 (before-5 .if1 .left),
-      ne-eqb (before-7 .args .rule .kind) 1 (before-3 .if2 .left),
-      eq-eqb (before-7 .args .rule .kind) 2 (c .before .if3 .taken),
+      ne-eqb (args .rule .kind) 0 (if1 .left),
+      ne-eqb (args .rule .kind) 1 (if2 .left),
+      eq-eqb (args .rule .kind) 2 (c .before .if3 .taken),
     ) (record {
       some-is = refl;
       bytes-are = ap (λ (z : ℤ). ascii ".cfa " ++ signed z ++ ascii " +") (toZ-ofZ f ∙ c .signed-of2 .ensures);
@@ -62,15 +62,15 @@ value-form-requires c κs = search needs
 returns-4 : tie.Need-returns-4
 unfolding formBytes
 returns-4 c =
-    let before-3 = c .before .before .before in
-    let before-5 = before-3 .before .before in
-    let before-7 = before-5 .before .before in
-    let before-9 = before-7 .before .before in
+    let args = c .before .before .before .before .before .before .before .before .before .args in
+    let if1 = c .before .before .before .before .before .before .before .if1 in
+    let if2 = c .before .before .before .before .before .if2 in
+    let if3 = c .before .before .before .if3 in
     rw (
-      ne-eqb (before-9 .args .rule .kind) 0 (before-7 .if1 .left),
-      ne-eqb (before-9 .args .rule .kind) 1 (before-5 .if2 .left),
-      ne-eqb (before-9 .args .rule .kind) 2 (before-3 .if3 .left),
-      eq-eqb (before-9 .args .rule .kind) 3 (c .before .if4 .taken),
+      ne-eqb (args .rule .kind) 0 (if1 .left),
+      ne-eqb (args .rule .kind) 1 (if2 .left),
+      ne-eqb (args .rule .kind) 2 (if3 .left),
+      eq-eqb (args .rule .kind) 3 (c .before .if4 .taken),
     ) (c .value-form .ensures)
 
 no-form-requires : tie.Need-no-form-requires
@@ -79,15 +79,15 @@ no-form-requires c κs = search needs
 returns-5 : tie.Need-returns-5
 unfolding formBytes
 returns-5 c =
-    let before-3 = c .before .before .before in
-    let before-5 = before-3 .before .before in
-    let before-7 = before-5 .before .before in
-    let before-9 = before-7 .before .before in
+    let args = c .before .before .before .before .before .before .before .before .before .args in
+    let if1 = c .before .before .before .before .before .before .before .if1 in
+    let if2 = c .before .before .before .before .before .if2 in
+    let if3 = c .before .before .before .if3 in
     rw (
-      ne-eqb (before-9 .args .rule .kind) 0 (before-7 .if1 .left),
-      ne-eqb (before-9 .args .rule .kind) 1 (before-5 .if2 .left),
-      ne-eqb (before-9 .args .rule .kind) 2 (before-3 .if3 .left),
-      ne-eqb (before-9 .args .rule .kind) 3 (c .before .if4 .left),
+      ne-eqb (args .rule .kind) 0 (if1 .left),
+      ne-eqb (args .rule .kind) 1 (if2 .left),
+      ne-eqb (args .rule .kind) 2 (if3 .left),
+      ne-eqb (args .rule .kind) 3 (c .before .if4 .left),
     ) (c .no-form .ensures)
 
 pub rule-form-spec : {M : Type 1} → statement M

@@ -16,10 +16,11 @@ same-length c = search needs
 
 returns : tie.Need-returns
 returns c =
-    let before-3 = c .before .before .before in
-    let before-5 = before-3 .before .before in
-    let before-7 = before-5 .before .before in
-    put-taken (before-7 .args .changed) _ _ (before-5 .if1 .taken) (before-3 .format-cfa .ensures) (c .before .before .put-formatted .ensures)
+    let args = c .before .before .before .before .before .before .before .args in
+    let if1 = c .before .before .before .before .before .if1 in
+    let format-cfa = c .before .before .before .format-cfa in
+    let put-formatted = c .before .before .put-formatted in
+    put-taken (args .changed) _ _ (if1 .taken) (format-cfa .ensures) (put-formatted .ensures)
 
 returns-2 : tie.Need-returns-2
 returns-2 c = put-left (c .before .before .args .changed) _ (c .if1 .left) (omega arith) (omega arith)

@@ -53,10 +53,10 @@ loop-less c = search needs
 
 loop-again : tie.Need-loop-again Inv-loop μ-loop
 loop-again c =
-    let before-4 = c .before .before .before .before in
-    let before-8 = before-4 .before .before .before .before in
-    let l = before-4 .loop in
-    let a = before-8 .args in (
+    let loop = c .before .before .before .before .loop in
+    let args = c .before .before .before .before .before .before .before .before .args in
+    let l = loop in
+    let a = args in (
       omega arith,
       c .both .ensures ∙ ap (λ (t : Bool). t && c .before .is-printable .result) (l .inv .1)
           ∙ ap (λ (t : Bool). all printable (wordsFrom (a .body .now) (a .from) (l .i)) && t) (c .before .is-printable .ensures) ∙ sym (bytes-more (a .body .now) (a .from) (l .i)),

@@ -35,24 +35,26 @@ word-requires c κs = search needs
 returns-3 : tie.Need-returns-3
 unfolding admitted
 returns-3 c =
-    let before-3 = c .before .before .before in
-    let before-4 = before-3 .before in
-    let before-5 = before-4 .before in
-    let before-7 = before-5 .before .before in
-    let ws = before-7 .args .body .now in
-    let l : x64Layout ws ≡ true = sym (before-5 .layout .ensures) ∙ not-false (before-5 .layout .result) (before-4 .if1 .left) in
-    rw (l, sym (before-3 .skipped .ensures) ∙ c .before .before .if2 .left, lt-ltb (before-7 .args .limit) (infoCount ws) (omega (arith, c .before .word .ensures)))
+    let args = c .before .before .before .before .before .before .before .args in
+    let layout = c .before .before .before .before .before .layout in
+    let if1 = c .before .before .before .before .if1 in
+    let skipped = c .before .before .before .skipped in
+    let if2 = c .before .before .if2 in
+    let ws = args .body .now in
+    let l : x64Layout ws ≡ true = sym (layout .ensures) ∙ not-false (layout .result) (if1 .left) in
+    rw (l, sym (skipped .ensures) ∙ if2 .left, lt-ltb (args .limit) (infoCount ws) (omega (arith, c .before .word .ensures)))
 
 returns-4 : tie.Need-returns-4
 unfolding admitted
 returns-4 c =
-    let before-3 = c .before .before .before in
-    let before-4 = before-3 .before in
-    let before-5 = before-4 .before in
-    let before-7 = before-5 .before .before in
-    let ws = before-7 .args .body .now in
-    let l : x64Layout ws ≡ true = sym (before-5 .layout .ensures) ∙ not-false (before-5 .layout .result) (before-4 .if1 .left) in
-    rw (l, sym (before-3 .skipped .ensures) ∙ c .before .before .if2 .left, le-ltb (before-7 .args .limit) (infoCount ws) (omega (arith, c .before .word .ensures)))
+    let args = c .before .before .before .before .before .before .before .args in
+    let layout = c .before .before .before .before .before .layout in
+    let if1 = c .before .before .before .before .if1 in
+    let skipped = c .before .before .before .skipped in
+    let if2 = c .before .before .if2 in
+    let ws = args .body .now in
+    let l : x64Layout ws ≡ true = sym (layout .ensures) ∙ not-false (layout .result) (if1 .left) in
+    rw (l, sym (skipped .ensures) ∙ if2 .left, le-ltb (args .limit) (infoCount ws) (omega (arith, c .before .word .ensures)))
 
 pub admit-spec : {M : Type 1} → statement M
 admit-spec =

@@ -36,8 +36,9 @@ put-init-requires c κs = search needs
 put-scan-requires : tie.Need-put-scan-requires
 unfolding scanStart
 put-scan-requires c κs =
-    let before-10 = c .before .before .before .before .before .before .before .before .before .before in
-    rw (before-10 .pre .2) (scanned-small scanStart (chain (before-10 .args .body .now)) (omega arith))
+    let pre = c .before .before .before .before .before .before .before .before .before .before .pre in
+    let args = c .before .before .before .before .before .before .before .before .before .before .args in
+    rw (pre .2) (scanned-small scanStart (chain (args .body .now)) (omega arith))
 
 put-chain-requires : tie.Need-put-chain-requires
 put-chain-requires c κs = search needs
@@ -54,24 +55,30 @@ same-length c = search needs
 returns : tie.Need-returns
 unfolding x64Text rulesRun
 returns c =
-    let before-6 = c .before .before .before .before .before .before in
-    let before-10 = before-6 .before .before .before .before in
-    let before-14 = before-10 .before .before .before .before in
-    let before-18 = before-14 .before .before .before .before in
-    let before-20 = before-18 .before .before in
-    let before-21 = before-20 .before in
-    let before-22 = before-21 .before in
-    let before-25 = before-22 .before .before .before in
-    let ws = before-25 .args .body .now in
+    let args = c .before .before .before .before .before .before .before .before .before .before .before .before .before .before .before
+    .before .before .before .before .before .before .before .before .before .before .args in
+    let pre = c .before .before .before .before .before .before .before .before .before .before .before .before .before .before .before
+    .before .before .before .before .before .before .before .before .before .before .pre in
+    let put-init = c .before .before .before .before .before .before .before .before .before .before .before .before .before .before .before .before .before .before .put-init in
+    let saturating-sub = c .before .before .before .before .before .before .before .before .before .before .before .before .before .before
+    .before .before .before .before .before .before .saturating-sub in
+    let word2 = c .before .before .before .before .before .before .before .before .before .before .before .before .before .before .before .before .before .before .before .before .before .word2 in
+    let word′ = c .before .before .before .before .before .before .before .before .before .before .before .before .before .before .before
+    .before .before .before .before .before .before .before .word in
+    let put-scan = c .before .before .before .before .before .before .before .before .before .before .before .before .before .before .put-scan in
+    let put-chain = c .before .before .before .before .before .before .before .before .before .before .put-chain in
+    let put-ra = c .before .before .before .before .before .before .put-ra in
+    let put-byte = c .before .before .put-byte in
+    let ws = args .body .now in
     let os = chain ws in
-    let r = before-25 .pre .1 in
-    let s = before-25 .pre .2 in
+    let r = pre .1 in
+    let s = pre .2 in
     put-line (word ws 0) (word ws 1 - word ws 0) (cfaOr (run setText 8 os) (total 8 os)) (run opText 8 os) (raText (anyMachine os))
-    (put-as (before-18 .put-init .ensures) (rw (before-20 .saturating-sub .ensures, before-21 .word2 .ensures, before-22 .word .ensures)))
-    (put-as (before-14 .put-scan .ensures) (ap cfaOf s ∙ scan-cfa os r))
-    (before-10 .put-chain .ensures)
-    (put-as (before-6 .put-ra .ensures) (ap raText (ap (λ x. x .machine) s ∙ scan-machine os r)))
-    (c .before .before .put-byte .ensures)
+    (put-as (put-init .ensures) (rw (saturating-sub .ensures, word2 .ensures, word′ .ensures)))
+    (put-as (put-scan .ensures) (ap cfaOf s ∙ scan-cfa os r))
+    (put-chain .ensures)
+    (put-as (put-ra .ensures) (ap raText (ap (λ x. x .machine) s ∙ scan-machine os r)))
+    (put-byte .ensures)
 
 pub put-entry-spec : {M : Type 1} → statement M
 put-entry-spec =
