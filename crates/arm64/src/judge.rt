@@ -38,6 +38,13 @@ const MOST_OPS: u32 = 1024;
 
 const MOST_REGISTER: u32 = 255;
 
+// The letter q, and the bytes of a register: of x and d, and of q.
+const Q: u32 = 2;
+
+const WIDTH: u64 = 8;
+
+const Q_WIDTH: u64 = 16;
+
 // A pair's second register too.
 const MOST_PAIRED: u64 = 255;
 
@@ -51,7 +58,7 @@ const NOTHING: Saved = Saved {
 fn width_of(letter: u32) -> u64
     ensures { λ r. ⌜ (r ≡ width letter) × (r ≤ 16) ⌝ }
 {
-    if letter < 2 { 8 } else { 16 }
+    if letter < Q { WIDTH } else { Q_WIDTH }
 }
 
 impl Saved {
@@ -206,7 +213,7 @@ impl BreakpadEncoder {
         let second = Saved {
             letter: 0,
             register: LR,
-            a: value as u64 + 8,
+            a: value as u64 + WIDTH,
             b: self.stack_size,
         };
         self = self.save_two(first, second);

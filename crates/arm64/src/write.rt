@@ -31,6 +31,11 @@ ghost use Rattle.arm64.specs.Arm64.{noPair, placeText, savedText, cfaTex
 ghost use Rattle.arm64.specs.Encoder.{stepText, Near, Small};
 ghost use Rattle.arm64.specs.Index.{opsRun};
 
+// x30, where a function's return address is at its start: the letter, and the link register.
+const X: u32 = 0;
+
+const LINK: u32 = 30;
+
 // " R: .cfa N + ^"
 fn put_saved(out: &mut [u8], at: usize, name: Name, a: u64, b: u64) -> usize
     requires { ⌜ (a < 2 ^ 63) × (b < 2 ^ 63) ⌝ }
@@ -107,7 +112,7 @@ fn put_default_ra(out: &mut [u8], at: usize, written: bool) -> usize
     if written {
         return at;
     }
-    let reg = Reg::Arm64(0, 30);
+    let reg = Reg::Arm64(X, LINK);
     let name = ra_name();
     let form = Form::Register(reg);
     put_rule(out, at, Rule { name, form })

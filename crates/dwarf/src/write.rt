@@ -53,6 +53,11 @@ ghost use Rattle.names.specs.Names.{cfiName};
 ghost use Rattle.dwarf.specs.Dwarf.{wide, rulesFrom, rows, registers, once, dwarfLayout, any, formBytes, ruleBytes, cfaBytes, raBytes, defaultBytes, startBytes, lineBytes, ranRow, cfaDiffers, ranRules, dwarfText, noCfa, nothingSeen, ranRows, ranParts, rowAt};
 ghost use Rattle.dwarf.specs.Cache.{lookup, cfaIf, cfaOf, fresh, Forms, formatted, Scanned, After};
 
+// The families whose return address is in a register at a function's start: from the first of these to the second.
+const FIRST_IN_REGISTER: u32 = 3;
+
+const LAST_IN_REGISTER: u32 = 9;
+
 impl RuleCache {
     fn start() -> RuleCache
         ensures { λ c. ⌜ (c .count ≡ 0) × (lookup c ≡ nothingSeen) ⌝ }
@@ -168,7 +173,7 @@ fn format_cfa(family: u32, cfa: CfaRule) -> Formatted
 fn format_default(family: u32, ra: u32) -> Formatted
     ensures { λ r. ⌜ formatted r ≡ raBytes family ra ⌝ }
 {
-    let kept = both(3 <= family, family <= 9);
+    let kept = both(FIRST_IN_REGISTER <= family, family <= LAST_IN_REGISTER);
     let some = both(kept, has_name(family, ra));
     let form = Form::Register(Reg::Cfi(family, ra));
     let name = ra_name();
