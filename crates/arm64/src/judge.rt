@@ -55,6 +55,8 @@ const NOTHING: Saved = Saved {
     b: 0,
 };
 
+// ---- the encoder
+
 fn width_of(letter: u32) -> u64
     ensures { λ r. ⌜ (r ≡ width letter) × (r ≤ 16) ⌝ }
 {
@@ -250,6 +252,8 @@ impl BreakpadEncoder {
     }
 }
 
+// ---- refusal 6
+
 // Totals, values and places end here: signed 32 bits.
 const REACH_END: u64 = 0x8000_0000;
 
@@ -315,6 +319,8 @@ fn reach(body: &[u32], n: usize) -> bool
     true
 }
 
+// ---- refusal 4
+
 fn op_fits(kind: u32, register: u32) -> bool
     ensures { λ r. ⌜ r ≡ opFits kind register ⌝ }
 {
@@ -350,6 +356,8 @@ fn layout(body: &[u32]) -> bool
     a == body.len()
 }
 
+// ---- entries that are skipped
+
 // An undecodable one before the first end.
 fn is_undecodable(body: &[u32]) -> bool
     requires { ⌜ getD (now body) 2 0 ≤ 1024 ⌝ }
@@ -370,6 +378,8 @@ fn is_undecodable(body: &[u32]) -> bool
     }
     false
 }
+
+// ---- one entry
 
 // What becomes of an entry: refused by 4 or 6, skipped, or written.
 pub(crate) fn judge(body: &[u32]) -> Judged

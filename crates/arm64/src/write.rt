@@ -36,6 +36,8 @@ const X: u32 = 0;
 
 const LINK: u32 = 30;
 
+// ---- the rules of an operation
+
 // " R: .cfa N + ^"
 fn put_saved(out: &mut [u8], at: usize, name: Name, a: u64, b: u64) -> usize
     requires { ⌜ (a < 2 ^ 63) × (b < 2 ^ 63) ⌝ }
@@ -93,6 +95,8 @@ fn put_rules(out: &mut [u8], at: usize, e: BreakpadEncoder) -> usize
     let p = put_register(out, p, e.two, e.second);
     put_ra(out, p, e.ra_written, e.second)
 }
+
+// ---- the lines
 
 fn put_default_cfa(out: &mut [u8], at: usize, touched: bool) -> usize
     ensures { λ r. ⌜ Put (now (out .entry)) at (given (not touched) (ascii " .cfa: .sp")) (now (out .exit)) r ⌝ }

@@ -52,6 +52,8 @@ const FEW_WORDS: usize = ROWS_AT + RULE_WORDS * MOST_REGISTERS;
 // Register numbers end here.
 const REGISTERS: u32 = 65536;
 
+// ---- refusal 4
+
 fn kind_fits(kind: u32, value: u64) -> bool
     ensures { λ r. ⌜ r ≡ cond (eqb kind 3) (ltb value 65536) (leb kind 4) ⌝ }
 {
@@ -165,6 +167,8 @@ fn rows_fit(body: &[u32]) -> bool
     a == body.len()
 }
 
+// ---- refusal 4: the registers of a body
+
 // The place of a register among the first n, or n.
 pub(crate) fn place(registers: &[u32], n: usize, r: u32) -> usize
     requires { ⌜ n ≤ length (now registers) ⌝ }
@@ -251,6 +255,8 @@ fn registers_fit(body: &[u32]) -> bool
     true
 }
 
+// ---- refusal 4: all of it
+
 fn head_fits(body: &[u32]) -> bool
     ensures { λ r. ⌜ r ≡ headFits (now (body .entry)) ⌝ }
 {
@@ -280,6 +286,8 @@ fn layout(body: &[u32]) -> bool
     }
     registers_fit(body)
 }
+
+// ---- skipping and refusal 6
 
 fn skipped(body: &[u32]) -> bool
     ensures { λ r. ⌜ r ≡ dwarfSkipped (now (body .entry)) ⌝ }

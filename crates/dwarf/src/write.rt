@@ -71,6 +71,8 @@ impl RuleCache {
     }
 }
 
+// ---- what is written of a rule
+
 // Whether a CFA differs from the one last seen, if any.
 fn cfa_differs(seen: bool, last: CfaRule, cfa: CfaRule) -> bool
     ensures { λ r. ⌜ r ≡ cfaDiffers (cfaIf seen last) cfa ⌝ }
@@ -217,6 +219,8 @@ fn write_register_rule(
     }
     at
 }
+
+// ---- a row
 
 // Whether the CFA writes anything.
 fn cfa_written(family: u32, cfa: CfaRule, changed: bool) -> bool
@@ -421,6 +425,8 @@ fn put_row(out: &mut [u8], at: usize, body: &[u32], a: usize, fde: Fde, state: R
     };
     Placed { at: p, state }
 }
+
+// ---- all rows
 
 fn start_state() -> RowState
     ensures { λ r. ⌜ (cfaOf r ≡ noCfa) × (r .rules .count ≡ 0) × (lookup (r .rules) ≡ nothingSeen) ⌝ }

@@ -49,6 +49,8 @@ const MOST_CODE_SIZE: u32 = 0x7fff_ffff;
 // Code and prolog end here at the latest.
 const LAST_ADDRESS: u64 = 0xffff_ffff;
 
+// ---- refusal 4
+
 // Type, prolog size and saved registers.
 fn sizes_fit(body: &[u32]) -> bool
     ensures { λ r. ⌜ r ≡ sizesFit (now (body .entry)) ⌝ }
@@ -210,6 +212,8 @@ fn layout(body: &[u32]) -> bool
     }
     rest_fits(body)
 }
+
+// ---- skipping and refusal 6
 
 // The frame table often has series of entries that are alike: only the first of them is written.
 fn repeated(last: Last, next: Last) -> bool

@@ -46,6 +46,8 @@ const REGISTERS: u32 = 16;
 // Totals and values end here: signed 32 bits.
 const REACH_END: u64 = 0x8000_0000;
 
+// ---- refusal 4
+
 fn op_fits(kind: u32, register: u32, value: u32) -> bool
     ensures { λ r. ⌜ r ≡ opFits kind register value ⌝ }
 {
@@ -127,6 +129,8 @@ fn layout(body: &[u32]) -> bool
     a == body.len()
 }
 
+// ---- entries that are skipped
+
 fn undecodable_ops(body: &[u32], from: usize, n: usize) -> bool
     requires { ⌜ (from < 2 ^ 20) × (n ≤ 255) ⌝ }
     ensures { λ r. ⌜ r ≡ undecodableOps (now (body .entry)) from n ⌝ }
@@ -196,6 +200,8 @@ fn skipped(body: &[u32], limit: u32) -> bool
     undecodable(body, limit)
 }
 
+// ---- before the chain is looked at
+
 // What becomes of an entry before its chain is looked at: refused by 4 or 5, skipped, or admitted.
 pub(crate) fn admit(body: &[u32], limit: u32) -> Judged
     ensures { λ r. ⌜ r ≡ admitted limit (now (body .entry)) ⌝ }
@@ -211,6 +217,8 @@ pub(crate) fn admit(body: &[u32], limit: u32) -> Judged
     }
     Judged::Write
 }
+
+// ---- the chain: refusals 6 and 7, and what its line needs
 
 impl Scan {
     fn start() -> Scan

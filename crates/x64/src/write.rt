@@ -43,6 +43,8 @@ const PUSHED_RSP: u64 = 16;
 
 const PUSHED_RIP: u64 = 40;
 
+// ---- the rules that operations write
+
 // " R: .cfa N - ^", N = a - b
 fn put_saved(out: &mut [u8], at: usize, register: u32, a: u64, b: u64) -> usize
     requires { ⌜ (a < 2 ^ 63) × (b < 2 ^ 63) ⌝ }
@@ -114,6 +116,8 @@ fn put_op(out: &mut [u8], at: usize, total: u64, op: Op) -> usize
     }
 }
 
+// ---- the operations as they are run
+
 // The rules of one info's operations, whose words start at a: last to first.
 fn put_ops(
     out: &mut [u8],
@@ -161,6 +165,8 @@ fn put_chain(out: &mut [u8], at: usize, body: &[u32]) -> usize
     }
     p
 }
+
+// ---- the line
 
 // The CFA rule: from the frame register where one is set, else from $rsp.
 fn put_scan(out: &mut [u8], at: usize, s: Scan) -> usize
