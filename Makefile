@@ -67,13 +67,13 @@ faults:
 	@sh tests/faults/run
 
 bench: lib
-	@LTO='$(LTO)' sh tests/bench
+	@LTO='$(LTO)' REAL='$(REAL)' sh tests/bench
 
 bench-docs: lib
-	@sh tests/bench docs/BENCHMARKS.md
+	@REAL='$(REAL)' sh tests/bench docs/BENCHMARKS.md
 
 profile: lib
-	@sh tests/profile
+	@REAL='$(REAL)' sh tests/profile
 
 prove:
 	rt prove
