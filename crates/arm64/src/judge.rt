@@ -38,6 +38,9 @@ const MOST_OPS: u32 = 1024;
 
 const MOST_REGISTER: u32 = 255;
 
+// A pair's second register too.
+const MOST_PAIRED: u64 = 255;
+
 // The letter q, and the bytes of a register: of x and d, and of q.
 const Q: u32 = 2;
 
@@ -45,9 +48,7 @@ const WIDTH: u64 = 8;
 
 const Q_WIDTH: u64 = 16;
 
-// A pair's second register too.
-const MOST_PAIRED: u64 = 255;
-
+// No pair yet: x0 at place 0.
 const NOTHING: Saved = Saved {
     letter: 0,
     register: 0,
