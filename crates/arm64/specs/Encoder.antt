@@ -12,7 +12,8 @@ use Rattle.arm64.specs.declared.Op.{Op}
 use Rattle.arm64.specs.declared.Op.the-variants.{AllocStack, SaveReg, SaveRegPreindexed, SaveRegPair, SaveRegPairPreindexed, SaveLrPair, SaveNext, Other, End, Undecodable}
 use Rattle.arm64.specs.declared.Saved.{Saved}
 use Rattle.arm64.specs.declared.BreakpadEncoder.{BreakpadEncoder}
-use Rattle.arm64.specs.Arm64.{width, above, saved, growthOf, writesCfa, Saves, nothing, alone, paired, pairFrom, saves, noPair, lastAfter, isLr, writesRa, savedText, cfaText, raText, given, savesText, opText, valueOf, savedFits, savesFit, fits}
+use Rattle.arm64.specs.Arm64.{width, above, saved, growthOf, writesCfa, Saves, nothing, alone, paired, pairFrom, saves, noPair, lastAfter}
+use Rattle.arm64.specs.Arm64.{isLr, writesRa, savedText, cfaText, raText, given, savesText, opText, valueOf, savedFits, savesFit, fits}
 use Rattle.arm64.specs.Index.{inside-bound}
 
 -- ---- its state

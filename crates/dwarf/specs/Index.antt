@@ -12,7 +12,9 @@ use Rattle.entry.specs.declared.Judged.the-variants.{Write}
 use Rattle.dwarf.specs.declared.RegisterRule.{RegisterRule}
 use Rattle.entry.specs.Entry.{word}
 use Rattle.entry.specs.Entry.Laws.{only-written}
-use Rattle.dwarf.specs.Dwarf.{ruleAt, rulesFrom, ruleCount, nextRow, rowAt, rowsFrom, rowCount, rows, wide, firstStart, registers, member, once, distinct, ruleFits, rulesFit, cfaFits, rowFits, rowsFit, rulesOf, headFits, dwarfLayout, dwarfSkipped, dwarfReach, dwarfJudged, ruleBytes, Seen, seen, differs, remember, seenAfter, ranRules, nothingSeen}
+use Rattle.dwarf.specs.Dwarf.{ruleAt, rulesFrom, ruleCount, nextRow, rowAt, rowsFrom, rowCount, rows, wide, firstStart, registers, member, once, distinct, ruleFits, rulesFit, cfaFits}
+use Rattle.dwarf.specs.Dwarf.{rowFits, rowsFit, rulesOf, headFits, dwarfLayout, dwarfSkipped, dwarfReach, dwarfJudged}
+use Rattle.dwarf.specs.Dwarf.{ruleBytes, Seen, seen, differs, remember, seenAfter, ranRules, nothingSeen}
 use Rattle.dwarf.specs.Cache.{newly, fresh}
 
 -- ---- steps

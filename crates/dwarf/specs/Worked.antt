@@ -9,7 +9,8 @@ use Rattle.text.specs.Tests.{all, eqw}
 use Rattle.lines.specs.Lines.{Bytes, Line, render, lineOk, Lines·open}
 use Rattle.entry.specs.Entry.{noLast}
 use Rattle.dwarf.specs.Dwarf.{dwarfSkipped, dwarfEntry, Dwarf·open}
-use Rattle.dwarf.specs.Sense.{dwarfLines, dwarfRows, dwarfRow, rowLine, lineOf, defaultRules, newRules, raDiffers, raRules, cfaRules, cfaPlusRules, ruleRules, named, ruleForms, nameForm, ruleFor, lastRule, lastCfaRule, ruleDiffers, cfaChanges, endOf}
+use Rattle.dwarf.specs.Sense.{dwarfLines, dwarfRows, dwarfRow, rowLine, lineOf, defaultRules, newRules, raDiffers, raRules, cfaRules, cfaPlusRules}
+use Rattle.dwarf.specs.Sense.{ruleRules, named, ruleForms, nameForm, ruleFor, lastRule, lastCfaRule, ruleDiffers, cfaChanges, endOf}
 
 -- a body's words, and what its entry gives
 pub record Case : Type 0 where

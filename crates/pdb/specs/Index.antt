@@ -17,7 +17,8 @@ use Rattle.entry.specs.declared.Last.{Last}
 use Rattle.pdb.specs.declared.Range.{Range}
 use Rattle.entry.specs.Entry.{word}
 use Rattle.entry.specs.Entry.Laws.{only-written}
-use Rattle.pdb.specs.Pdb.{startOf, endOf, rangeAt, ranges, wordsFrom, prologs, codes, program, sizesFit, flagsFit, hasProgram, lengthFits, countsFit, rangeFits, apart, differ, rangesFit, printable, restFits, pdbLayout, pdbSkipped, inReach, lead, trim, maxStack, numbersText, contiguous, pdbJudged}
+use Rattle.pdb.specs.Pdb.{startOf, endOf, rangeAt, ranges, wordsFrom, prologs, codes, program, sizesFit, flagsFit, hasProgram, lengthFits, countsFit, rangeFits}
+use Rattle.pdb.specs.Pdb.{apart, differ, rangesFit, printable, restFits, pdbLayout, pdbSkipped, inReach, lead, trim, maxStack, numbersText, contiguous, pdbJudged}
 use Rattle.pdb.specs.declared.Found.{Found}
 use Rattle.pdb.specs.Sorted.{step, found}
 

@@ -66,12 +66,14 @@ back-one {b} {x} {d} {at} {k} {v} {d₁} c p e = record {
       ∙ p .rest;
 }
 
-pub back-more : {b x : ℕ} {d : List ℕ} {at k v : ℕ} {d₁ : List ℕ} (c : ℕ) → 0 < k → Back b x d at k v d₁ → c ≡ digit (v % b) → Back b x d at (k - 1) (v / b) (set d₁ (at + (k - 1)) c)
+pub back-more : {b x : ℕ} {d : List ℕ} {at k v : ℕ} {d₁ : List ℕ} (c : ℕ) → 0 < k → Back b x d at k v d₁ → c ≡ digit (v % b)
+    → Back b x d at (k - 1) (v / b) (set d₁ (at + (k - 1)) c)
 back-more {b} {x} {d} {at} {k} {v} {d₁} c h p e =
     let s : k ≡ suc (k - 1) = omega arith in
     back-one c (subst (λ (j : ℕ). Back b x d at j v d₁) s p) e
 
-pub back-put : {b x : ℕ} {d : List ℕ} {at v : ℕ} {d₁ : List ℕ} (r : ℕ) → Back b x d at 0 v d₁ → length d ≤ MAX → r ≡ at + length (digits b x) → r ≤ length d → Put d at (digits b x) d₁ r
+pub back-put : {b x : ℕ} {d : List ℕ} {at v : ℕ} {d₁ : List ℕ} (r : ℕ) → Back b x d at 0 v d₁ → length d ≤ MAX → r ≡ at + length (digits b x) → r ≤ length d
+    → Put d at (digits b x) d₁ r
 back-put {b} {x} {d} {at} {v} {d₁} r p h e k = record {
   bytes = p .stored ∙ ap (λ (i : ℕ). sets d i (p .tail)) (omega arith) ∙ ap (sets d at) (p .rest);
   next = omega (arith, e);

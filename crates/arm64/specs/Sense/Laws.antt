@@ -22,8 +22,10 @@ use Rattle.entry.specs.Entry.Laws.{Accepted, accepted}
 use Rattle.arm64.specs.declared.Op.{Op}
 use Rattle.arm64.specs.declared.Op.the-variants.{AllocStack, SaveReg, SaveRegPreindexed, SaveRegPair, SaveRegPairPreindexed, SaveLrPair, SaveNext, Other, End, Undecodable}
 use Rattle.arm64.specs.declared.Saved.{Saved}
-use Rattle.arm64.specs.Arm64.{ops, width, above, saved, pairFrom, isLr, inReach, armLayout, armSkipped, armJudged, growthOf, writesCfa, Saves, nothing, alone, paired, saves, noPair, lastAfter, writesRa, savedText, cfaText, raText, given, savesText, opText, defaultsText, firstLine, laterLine, nthLine, run, armText, armEntry}
-use Rattle.arm64.specs.Sense.{addedBy, sum, Slot, slot, step, next, lastPair, slotRule, cfaRule, raRule, optional, isX30, twoRules, pairRules, opRules, lacks, defaults, armLine, linesFrom, armLines}
+use Rattle.arm64.specs.Arm64.{ops, width, above, saved, pairFrom, isLr, inReach, armLayout, armSkipped, armJudged, growthOf, writesCfa, Saves, nothing, alone, paired, saves}
+use Rattle.arm64.specs.Arm64.{noPair, lastAfter, writesRa, savedText, cfaText, raText, given, savesText, opText, defaultsText, firstLine, laterLine, nthLine, run, armText, armEntry}
+use Rattle.arm64.specs.Sense.{addedBy, sum, Slot, slot, step, next, lastPair, slotRule, cfaRule, raRule}
+use Rattle.arm64.specs.Sense.{optional, isX30, twoRules, pairRules, opRules, lacks, defaults, armLine, linesFrom, armLines}
 
 -- ---- a saved register of the text is one of the sense, at the place a - b
 

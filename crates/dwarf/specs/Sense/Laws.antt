@@ -10,16 +10,21 @@ use Rattle.text.specs.Text.{ascii}
 use Rattle.text.specs.Digits.{hex, signed}
 use Rattle.text.specs.Tests.{all, all-append, and-l, and-r, both, either}
 use Rattle.names.specs.Names.{cfiName}
-use Rattle.lines.specs.Lines.{Bytes, Form, register, registerPlus, cfaPlus, atCfaPlus, Rule, rule, init, later, cfa, formText, ruleText, rulesText, initText, laterText, lineText, render, nameOk, registerOk, formOk, ruleOk, lineOk}
+use Rattle.lines.specs.Lines.{Bytes, Form, register, registerPlus, cfaPlus, atCfaPlus, Rule, rule, init, later, cfa, formText}
+use Rattle.lines.specs.Lines.{ruleText, rulesText, initText, laterText, lineText, render, nameOk, registerOk, formOk, ruleOk, lineOk}
 use Rattle.lines.specs.Lines.Laws.{rules-append, render-append, render-unless}
 use Rattle.lines.specs.Rules.Laws.{cfi-ok}
 use Rattle.entry.specs.declared.Last.{Last}
 use Rattle.entry.specs.Entry.Laws.{Accepted, accepted}
 use Rattle.dwarf.specs.declared.RegisterRule.{RegisterRule}
 use Rattle.dwarf.specs.declared.CfaRule.{CfaRule}
-use Rattle.dwarf.specs.Dwarf.{twos, Row, rows, loadAddress, lastEnd, fdeOf, dwarfLayout, dwarfSkipped, dwarfReach, Seen, never, seen, differs, CfaSeen, noCfa, lastCfa, cfaDiffers, dwarfJudged, nextRow, rowAt, rowsFrom, rowCount, registers, member, once, rowFits, rowsFit, any, formBytes, namedBytes, ruleBytes, cfaBytes, raBytes, defaultBytes, startBytes, lineBytes, rowBytes, remember, seenAfter, ranMoved, ranOf, ranRow, ranRows, nothingSeen, dwarfText, dwarfEntry}
+use Rattle.dwarf.specs.Dwarf.{twos, Row, rows, loadAddress, lastEnd, fdeOf, dwarfLayout, dwarfSkipped, dwarfReach, Seen, never, seen}
+use Rattle.dwarf.specs.Dwarf.{differs, CfaSeen, noCfa, lastCfa, cfaDiffers, dwarfJudged, nextRow, rowAt, rowsFrom, rowCount, registers}
+use Rattle.dwarf.specs.Dwarf.{member, once, rowFits, rowsFit, any, formBytes, namedBytes, ruleBytes, cfaBytes, raBytes, defaultBytes, startBytes}
+use Rattle.dwarf.specs.Dwarf.{lineBytes, rowBytes, remember, seenAfter, ranMoved, ranOf, ranRow, ranRows, nothingSeen, dwarfText, dwarfEntry}
 use Rattle.dwarf.specs.Index.{layout-rows, rowRules, free-ind, once-free, once-rest, ran-row, row-once}
-use Rattle.dwarf.specs.Sense.{orElse, ruleFor, lastRule, lastCfaRule, ruleDiffers, cfaChanges, nameForm, ruleForms, named, ruleRules, cfaPlusRules, cfaRules, raRules, newRules, raDiffers, family, returnRegister, first, endOf, defaultRules, lineOf, rowLine, dwarfRow, dwarfRows, dwarfLines}
+use Rattle.dwarf.specs.Sense.{orElse, ruleFor, lastRule, lastCfaRule, ruleDiffers, cfaChanges, nameForm, ruleForms, named, ruleRules, cfaPlusRules, cfaRules, raRules}
+use Rattle.dwarf.specs.Sense.{newRules, raDiffers, family, returnRegister, first, endOf, defaultRules, lineOf, rowLine, dwarfRow, dwarfRows, dwarfLines}
 
 -- ---- the last earlier row against what is remembered
 
@@ -170,7 +175,8 @@ unfolding lineText lineOf startBytes initText laterText fdeOf
 line-text b start rs = rw (end-is (rows b)) (go (eqb start (first b)))
   where
     go : (t : Bool) → lineText false (cond t (init (start - loadAddress b) (endOf (rows b) - first b) rs) (later (start - loadAddress b) rs))
-        ≡ cond t (ascii "STACK CFI INIT " ++ hex (start - loadAddress b) ++ ascii " " ++ hex (endOf (rows b) - first b)) (ascii "STACK CFI " ++ hex (start - loadAddress b)) ++ rulesText rs ++ ascii "\n"
+        ≡ cond t (ascii "STACK CFI INIT " ++ hex (start - loadAddress b) ++ ascii " " ++ hex (endOf (rows b) - first b))
+        (ascii "STACK CFI " ++ hex (start - loadAddress b)) ++ rulesText rs ++ ascii "\n"
     go true = refl
     go false = refl
 
@@ -325,7 +331,8 @@ cfa-ok f x = either (all ruleOk) (eqb (x .kind) 0) (cfaPlusRules (cfiName f (x .
 
 ra-ok : (f ra : ℕ) → T (all ruleOk (raRules f ra))
 unfolding raRules
-ra-ok f ra = named-ok (ascii ".ra") (cond (leb 3 f && leb f 9) (nameForm (cfiName f ra)) []) tt (either (all formOk) (leb 3 f && leb f 9) (nameForm (cfiName f ra)) [] (name-form-ok _ (cfi-ok f ra)) tt)
+ra-ok f ra = named-ok (ascii ".ra") (cond (leb 3 f && leb f 9) (nameForm (cfiName f ra)) []) tt
+    (either (all formOk) (leb 3 f && leb f 9) (nameForm (cfiName f ra)) [] (name-form-ok _ (cfi-ok f ra)) tt)
 
 default-ok : (b : List ℕ) (start : ℕ) (moved : Bool) → T (all ruleOk (defaultRules b start moved))
 unfolding defaultRules

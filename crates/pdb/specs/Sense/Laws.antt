@@ -17,9 +17,11 @@ use Rattle.entry.specs.declared.Last.{Last}
 use Rattle.entry.specs.Entry.{word}
 use Rattle.entry.specs.Entry.Laws.{Accepted, accepted}
 use Rattle.pdb.specs.declared.Range.{Range}
-use Rattle.pdb.specs.Pdb.{startOf, endOf, rangeAt, prologs, codes, hasProgram, lead, trim, tailText, maxStack, insert, sorted, prologOf, contiguous, inReach, pdbSkipped, pdbJudged, program, printable, pdbLayout, leaves, rangeText, rangesText, bothText, pdbText, pdbEntry}
+use Rattle.pdb.specs.Pdb.{startOf, endOf, rangeAt, prologs, codes, hasProgram, lead, trim, tailText, maxStack, insert, sorted, prologOf}
+use Rattle.pdb.specs.Pdb.{contiguous, inReach, pdbSkipped, pdbJudged, program, printable, pdbLayout, leaves, rangeText, rangesText, bothText, pdbText, pdbEntry}
 use Rattle.pdb.specs.Index.{layout-program, trim-all, one-each, apart-prologs, apart-codes, unpadded, reverse-snoc, infoOf, win-text}
-use Rattle.pdb.specs.Sense.{lastUnskipped, withProgram, noFront, before, noBack, winTail, mostStack, fieldsOf, prologFields, codeFields, bothFields, placed, byStart, meets, stackInfos, winLine, pdbLines}
+use Rattle.pdb.specs.Sense.{lastUnskipped, withProgram, noFront, before, noBack, winTail, mostStack, fieldsOf, prologFields}
+use Rattle.pdb.specs.Sense.{codeFields, bothFields, placed, byStart, meets, stackInfos, winLine, pdbLines}
 
 -- ---- trimming
 

@@ -257,14 +257,16 @@ pub same-text-same-sense : (b₁ : List ℕ) (l₁ : ℕ) (w₁ t₁ b₂ : List
     → outcome b₁ l₁ w₁ t₁ .number ≡ 0 → outcome b₂ l₂ w₂ t₂ .number ≡ 0
     → (textOf (outcome b₁ l₁ w₁ t₁) ≡ textOf (outcome b₂ l₂ w₂ t₂)) ↔ (sense b₁ l₁ ≡ sense b₂ l₂)
 same-text-same-sense b₁ l₁ w₁ t₁ b₂ l₂ w₂ t₂ k h₁ h₂ =
-    let e₁ : textOf (outcome b₁ l₁ w₁ t₁) ≡ render (sixSpaces (kind b₂)) (sense b₁ l₁) = text-is b₁ l₁ w₁ t₁ h₁ ∙ ap (λ (n : ℕ). render (sixSpaces n) (sense b₁ l₁)) k in
+    let e₁ : textOf (outcome b₁ l₁ w₁ t₁) ≡ render (sixSpaces (kind b₂)) (sense b₁ l₁) =
+    text-is b₁ l₁ w₁ t₁ h₁ ∙ ap (λ (n : ℕ). render (sixSpaces n) (sense b₁ l₁)) k in
     let e₂ : textOf (outcome b₂ l₂ w₂ t₂) ≡ render (sixSpaces (kind b₂)) (sense b₂ l₂) = text-is b₂ l₂ w₂ t₂ h₂ in (
       λ e. render-injective (sixSpaces (kind b₂)) (sense b₁ l₁) (sense b₂ l₂) (sense-ok b₁ l₁ w₁ t₁ h₁) (sense-ok b₂ l₂ w₂ t₂ h₂) (sym e₁ ∙ e ∙ e₂),
       λ e. e₁ ∙ ap (render (sixSpaces (kind b₂))) e ∙ sym e₂,
     )
 
 -- the same of what two calls of the code leave behind them
-pub calls-alike : (b₁ : List ℕ) (l₁ : ℕ) (w₁ t₁ b₂ : List ℕ) (l₂ : ℕ) (w₂ t₂ : List ℕ) {w₁′ t₁′ w₂′ t₂′ : List ℕ} {r₁ r₂ : Returned} → kind b₁ ≡ kind b₂
+pub calls-alike : (b₁ : List ℕ) (l₁ : ℕ) (w₁ t₁ b₂ : List ℕ) (l₂ : ℕ) (w₂ t₂ : List ℕ)
+    {w₁′ t₁′ w₂′ t₂′ : List ℕ} {r₁ r₂ : Returned} → kind b₁ ≡ kind b₂
     → Called (outcome b₁ l₁ w₁ t₁) w₁′ t₁′ r₁ → Called (outcome b₂ l₂ w₂ t₂) w₂′ t₂′ r₂ → r₁ .number ≡ 0 → r₂ .number ≡ 0
     → (take (r₁ .length) t₁′ ≡ take (r₂ .length) t₂′) ↔ (sense b₁ l₁ ≡ sense b₂ l₂)
 calls-alike b₁ l₁ w₁ t₁ b₂ l₂ w₂ t₂ k p₁ p₂ z₁ z₂ =
