@@ -1,5 +1,5 @@
 // One entry of a book, of whatever kind: its words, what it comes to and what it leaves to the next.
-// The numbers of refusals have names here, as the C header has them.
+// The numbers of refusals have their names in `refusal`.
 
 pub mod refusal;
 
