@@ -7,7 +7,7 @@ use lib.ListN.{length}
 use lib.IntN.{pos, subℕ}
 use lib.Dec.{ltb, leb, eqb}
 use Rattle.text.specs.Text.{ascii}
-use Rattle.text.specs.Digits.{hex, signed, Digits·open}
+use Rattle.digits.specs.Digits.{hex, signed, Digits·open}
 use Rattle.names.specs.Names.{letterOf, arm64Name}
 use Rattle.lines.specs.Reach.{inside}
 use Rattle.entry.specs.declared.Judged.{Judged}

@@ -9,9 +9,9 @@ use lib.Dec.{eqb, ltb}
 use borrow.Author.Tests.{eq-eqb, ne-eqb, eqb-true, eqb-false, lt-ltb, le-ltb}
 use Rattle.text.specs.Text.{ascii, MAX, Put}
 use Rattle.text.specs.Text.Laws.{put-as, put-none}
-use Rattle.names.specs.Names.{table, cfiName, i386, x86-64, arm, arm64, ppc, mips}
+use Rattle.tables.specs.Tables.{table, cfiName, i386, x86-64, arm, arm64, ppc, mips}
 use Rattle.lines.specs.Lines.{Bytes, ruleText}
-use Rattle.lines.specs.Rules.{ruleOf}
+use Rattle.rules.specs.Rules.{ruleOf}
 use Rattle.dwarf.specs.declared.RegisterRule.{RegisterRule}
 use Rattle.dwarf.specs.declared.CfaRule.{CfaRule}
 use Rattle.dwarf.specs.declared.Formatted.{Formatted}

@@ -6,7 +6,7 @@ use Prim.Native.Nat.{ℕ, suc, _+_}
 use lib.ListN.{take, getD}
 use lib.Dec.{eqb, ltb}
 use Rattle.lines.specs.Lines.{formText, ruleText}
-use Rattle.lines.specs.Rules.{formOf, ruleOf}
+use Rattle.rules.specs.Rules.{formOf, ruleOf}
 use Rattle.dwarf.specs.declared.RegisterRule.{RegisterRule}
 use Rattle.dwarf.specs.declared.CfaRule.{CfaRule}
 use Rattle.dwarf.specs.declared.RuleCache.{RuleCache}

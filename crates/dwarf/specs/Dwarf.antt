@@ -7,8 +7,8 @@ use lib.ListN.{length}
 use lib.IntN.{ℤ, pos, negsuc}
 use lib.Dec.{ltb, leb, eqb}
 use Rattle.text.specs.Text.{ascii}
-use Rattle.text.specs.Digits.{hex, signed, Digits·open}
-use Rattle.names.specs.Names.{cfiName, table, i386, x86-64, arm, arm64, ppc, mips}
+use Rattle.digits.specs.Digits.{hex, signed, Digits·open}
+use Rattle.tables.specs.Tables.{cfiName, table, i386, x86-64, arm, arm64, ppc, mips}
 use Rattle.entry.specs.declared.Last.{Last}
 use Rattle.entry.specs.declared.Judged.{Judged}
 use Rattle.entry.specs.declared.Judged.the-variants.{Refuse, Skip, Write}

@@ -7,7 +7,7 @@ use mathlib.Core.List.{List, [], _∷_, _++_}
 use lib.IntN.{ℤ}
 use lib.Dec.{eqb, leb}
 use Rattle.text.specs.Text.{ascii}
-use Rattle.names.specs.Names.{cfiName}
+use Rattle.tables.specs.Tables.{cfiName}
 use Rattle.lines.specs.Lines.{Bytes, Form, register, registerPlus, cfaPlus, atCfaPlus, Rule, rule, Line, init, later, cfa}
 use Rattle.entry.specs.Entry.{word}
 use Rattle.dwarf.specs.declared.RegisterRule.{RegisterRule}

@@ -1,15 +1,15 @@
 // Prints what the leaves write, a line for each answer: names, numbers, rules and beginnings of lines.
 // tests/leaves.rs compares the output with Rust's own formatting and with the tables of the Rust source.
+use digits::put_decimal;
+use digits::put_hex;
 use libc::STDOUT_FILENO;
-use lines::Form;
-use lines::Reg;
-use lines::Rule;
 use lines::StackInfo;
 use names::Name;
+use rules::Form;
+use rules::Reg;
+use rules::Rule;
 use text::put_byte;
 use text::put_bytes;
-use text::put_decimal;
-use text::put_hex;
 
 // How far the loops below count: past the last family, past every table, past the last letter.
 const FAMILIES: u32 = 12;
@@ -127,7 +127,7 @@ fn decimal(out: &mut [u8], x: u64) -> usize {
 
 fn signed(out: &mut [u8], x: i64) -> usize {
     let p = put_bytes(out, 0, b"signed ");
-    text::put_signed(out, p, x)
+    digits::put_signed(out, p, x)
 }
 
 fn show_number(x: u64) {
@@ -231,7 +231,7 @@ fn show_measured(x: u64) {
 fn rule(out: &mut [u8], name: Name, form: Form) -> usize {
     let p = put_bytes(out, 0, b"rule");
     let rule = Rule { name, form };
-    lines::put_rule(out, p, rule)
+    rules::put_rule(out, p, rule)
 }
 
 fn show_rule(name: Name, form: Form) {
@@ -254,8 +254,8 @@ fn show_forms(name: Name, reg: Reg, x: i64) {
 const SP: u64 = 0x70732e;
 
 fn show_rules() {
-    show_forms(lines::cfa_name(), Reg::Pe(4), 48);
-    show_forms(lines::ra_name(), Reg::Sp, -8);
+    show_forms(rules::cfa_name(), Reg::Pe(4), 48);
+    show_forms(rules::ra_name(), Reg::Sp, -8);
     show_forms(names::pe_register_name(3), Reg::Pe(5), 0);
     show_forms(
         names::cfi_register_name(2, 58),

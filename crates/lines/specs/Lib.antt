@@ -1,5 +1,4 @@
 pub mod Lines
-pub mod Rules
 pub mod Cut
 pub mod Read
 pub mod Worked

@@ -6,7 +6,7 @@ use lib.IntN.{ℤ}
 use lib.Dec.{eqb}
 use Rattle.text.specs.Text.{ascii}
 use Rattle.text.specs.Tests.{all, eqw}
-use Rattle.text.specs.Digits.{hex, signed, Digits·open}
+use Rattle.digits.specs.Digits.{hex, signed, Digits·open}
 use Rattle.lines.specs.declared.StackInfo.{StackInfo}
 pub mod Laws
 

@@ -4,7 +4,7 @@ use mathlib.Core.List.{List, [], _∷_, _++_, map, headD}
 use lib.ListN.{getD, drop}
 use Rattle.text.specs.Text.{ascii}
 use Rattle.text.specs.Tests.{eqw}
-use Rattle.text.specs.Digits.{readHex, readSigned}
+use Rattle.digits.specs.Digits.{readHex, readSigned}
 use Rattle.lines.specs.Lines.{Bytes, Form, register, registerPlus, atRegisterPlus, cfaPlus, atCfaPlus, atCfaMinus, Rule, rule, Line, init, later, win, cfa}
 use Rattle.lines.specs.Cut.{free, cut, after}
 pub mod Laws

@@ -8,8 +8,8 @@ use lib.Dec.{eqb}
 use lib.ListN.{length, take}
 use borrow.Author.Tests.{ne-eqb}
 use Rattle.text.specs.Text.{ascii, unpackIn, unpack}
-use Rattle.text.specs.Digits.{digit, decimal}
-use Rattle.text.specs.Digits.Laws.{digits-one, digits-more}
+use Rattle.digits.specs.Digits.{digit, decimal}
+use Rattle.digits.specs.Digits.Laws.{digits-one, digits-more}
 
 -- the n lowest bytes
 abbrev pub low : ℕ → ℕ → List ℕ

@@ -5,7 +5,7 @@ use Prim.Native.Nat.{ℕ, _-_}
 use mathlib.Core.Bool.{Bool, false, cond, _&&_}
 use mathlib.Core.List.{List, [], _∷_, _++_, map}
 use lib.Dec.{ltb, eqb}
-use Rattle.text.specs.Digits.{hex}
+use Rattle.digits.specs.Digits.{hex}
 use Rattle.lines.specs.declared.StackInfo.{StackInfo}
 use Rattle.lines.specs.Lines.{Line, win}
 use Rattle.entry.specs.declared.Last.{Last}

@@ -1,4 +1,3 @@
 pub mod Tests
 pub mod Bits
 pub mod Text
-pub mod Digits

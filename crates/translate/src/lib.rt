@@ -7,7 +7,8 @@ use book::start_of;
 use entry::Last;
 use entry::Wrote;
 use entry::refusal;
-use text::put_bytes;
+use text::clear;
+use text::put_front;
 ghost use mathlib.Core.Path.{_≡_};
 ghost use mathlib.Core.Bool.{true};
 ghost use Prim.Native.Nat.{_≤_};
@@ -52,14 +53,6 @@ fn process(kind: u32, limit: u32, last: Last, body: &[u32], out: &mut [u8], at: 
     }
 }
 
-// The first `size` bytes of the work area, put into the text at `used`.
-fn copy(work: &[u8], size: usize, text: &mut [u8], used: usize) -> usize
-    requires { ⌜ size ≤ length (now work) ⌝ }
-    ensures { λ r. ⌜ Put (now (text .entry)) used (take size (now (work .entry))) (now (text .exit)) r ⌝ }
-{
-    put_bytes(text, used, &work[..size])
-}
-
 // One entry through the work area into the text, behind the first `used` bytes of it.
 fn step(
     kind: u32,
@@ -98,7 +91,7 @@ fn step(
             last: next,
         };
     }
-    let p = copy(work, size, text, used);
+    let p = put_front(text, used, work, size);
     Next {
         number: refusal::NONE,
         used: p,
@@ -136,16 +129,6 @@ fn entries(book: &[u32], limit: u32, work: &mut [u8], text: &mut [u8]) -> Return
         number: refusal::NONE,
         entries: n,
         length: used,
-    }
-}
-
-fn clear(out: &mut [u8])
-    ensures { λ r. ⌜ now (out .exit) ≡ replicate (length (now (out .entry))) 0 ⌝ }
-{
-    let mut i = 0;
-    while i < out.len() {
-        out[i] = 0;
-        i += 1;
     }
 }
 

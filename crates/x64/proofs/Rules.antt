@@ -7,7 +7,7 @@ use Rattle.text.specs.Text.{ascii, Put}
 use Rattle.text.specs.Text.Laws.{put-as, _⨾_}
 use Rattle.lines.specs.Lines.{Bytes, initText}
 use Rattle.lines.specs.Lines.Laws.{sub-none}
-use Rattle.text.specs.Digits.{hex}
+use Rattle.digits.specs.Digits.{hex}
 use Rattle.x64.specs.X64.{savedText}
 
 -- a place that is no difference

@@ -9,7 +9,7 @@ use borrow.Author.Tests.{le-leb, lt-ltb}
 use lib.IntN.{ℤ}
 use lib.Dec.{T, ltb, leb, eqb, ltb→lt, leb→le}
 use Rattle.text.specs.Text.{ascii}
-use Rattle.text.specs.Digits.{signed}
+use Rattle.digits.specs.Digits.{signed}
 use Rattle.lines.specs.Lines.{Bytes, registerPlus, atRegisterPlus, atCfaMinus, rule, cfa, formText, ruleText}
 use Rattle.lines.specs.Lines.Laws.{row}
 use Rattle.lines.specs.Reach.{inside, difference-inside}

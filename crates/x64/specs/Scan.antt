@@ -7,7 +7,7 @@ use Rattle.x64.specs.declared.Op.{Op}
 use Rattle.x64.specs.declared.Op.the-variants.{PushNonVolatile, Alloc, SaveRsp, SaveFp, SetFpRegister, PushMachineFrame, Other, Undecodable}
 use Rattle.x64.specs.declared.Scan.{Scan}
 use Rattle.text.specs.Text.{ascii}
-use Rattle.names.specs.Names.{peName}
+use Rattle.tables.specs.Tables.{peName}
 use Rattle.x64.specs.X64.{growthOf, cfaText}
 use Rattle.x64.specs.Index.{within}
 pub mod Laws

@@ -8,7 +8,7 @@ use lib.ListN.{length, getD, take}
 use lib.IntN.{pos, subℕ}
 use lib.Dec.{eqb}
 use Rattle.text.specs.Text.{ascii}
-use Rattle.names.specs.Names.{peName}
+use Rattle.tables.specs.Tables.{peName}
 use Rattle.lines.specs.Lines.{Form, registerPlus, atRegisterPlus, atCfaMinus, Rule, rule, Line, init, cfa}
 use Rattle.entry.specs.Entry.{word}
 use Rattle.x64.specs.declared.Op.{Op}

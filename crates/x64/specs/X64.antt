@@ -8,8 +8,8 @@ use lib.IntN.{ℤ, pos, subℕ}
 use lib.Dec.{ltb, leb, eqb}
 use Rattle.text.specs.Text.{ascii}
 use Rattle.text.specs.Tests.{all}
-use Rattle.names.specs.Names.{peName, pe-x64}
-use Rattle.text.specs.Digits.{hex, signed, Digits·open}
+use Rattle.tables.specs.Tables.{peName, pe-x64}
+use Rattle.digits.specs.Digits.{hex, signed, Digits·open}
 use Rattle.entry.specs.declared.Last.{Last}
 use Rattle.entry.specs.Entry.{Entry, comesTo, word}
 use Rattle.x64.specs.declared.Op.{Op}

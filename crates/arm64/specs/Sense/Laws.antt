@@ -11,11 +11,11 @@ use lib.IntN.{pos, subℕ, _+ℤ_}
 use lib.Dec.{T, eqb}
 use Rattle.text.specs.Text.{ascii}
 use Rattle.text.specs.Tests.{is-false, all, all-append, and-l, and-r, both, eqw}
-use Rattle.text.specs.Digits.{decimal}
+use Rattle.digits.specs.Digits.{decimal}
 use Rattle.names.specs.Names.{letterOf, arm64Name}
 use Rattle.lines.specs.Lines.{Bytes, Rule, rule, register, cfa, formText, ruleText, rulesText, initText, laterText, lineText, render, nameOk, ruleOk, lineOk}
 use Rattle.lines.specs.Lines.Laws.{rules-append, render-unless}
-use Rattle.lines.specs.Rules.Laws.{arm64-ok}
+use Rattle.rules.specs.Rules.Laws.{arm64-ok}
 use Rattle.entry.specs.declared.Last.{Last}
 use Rattle.entry.specs.Entry.{word}
 use Rattle.entry.specs.Entry.Laws.{Accepted, accepted}

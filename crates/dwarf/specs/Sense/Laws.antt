@@ -7,13 +7,13 @@ use lib.IntN.{ℤ}
 use native.Mathlib.Omega.{arith}
 use lib.Dec.{T, eqb, leb}
 use Rattle.text.specs.Text.{ascii}
-use Rattle.text.specs.Digits.{hex, signed}
+use Rattle.digits.specs.Digits.{hex, signed}
 use Rattle.text.specs.Tests.{all, all-append, and-l, and-r, both, either}
-use Rattle.names.specs.Names.{cfiName}
+use Rattle.tables.specs.Tables.{cfiName}
 use Rattle.lines.specs.Lines.{Bytes, Form, register, registerPlus, cfaPlus, atCfaPlus, Rule, rule, init, later, cfa, formText}
 use Rattle.lines.specs.Lines.{ruleText, rulesText, initText, laterText, lineText, render, nameOk, registerOk, formOk, ruleOk, lineOk}
 use Rattle.lines.specs.Lines.Laws.{rules-append, render-append, render-unless}
-use Rattle.lines.specs.Rules.Laws.{cfi-ok}
+use Rattle.rules.specs.Rules.Laws.{cfi-ok}
 use Rattle.entry.specs.declared.Last.{Last}
 use Rattle.entry.specs.Entry.Laws.{Accepted, accepted}
 use Rattle.dwarf.specs.declared.RegisterRule.{RegisterRule}

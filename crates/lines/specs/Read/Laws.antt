@@ -11,8 +11,8 @@ use lib.IntN.{ℤ}
 use lib.Dec.{T, eqb}
 use Rattle.text.specs.Text.{ascii}
 use Rattle.text.specs.Tests.{all, all-append, all-mono, eqw, eqw-no, is-true, is-false, and-l, and-r, both}
-use Rattle.text.specs.Digits.{digit, hex, signed}
-use Rattle.text.specs.Digits.Laws.{hex-all, hex-some, signed-all, read-hex, read-signed}
+use Rattle.digits.specs.Digits.{digit, hex, signed}
+use Rattle.digits.specs.Digits.Laws.{hex-all, hex-some, signed-all, read-hex, read-signed}
 use Rattle.lines.specs.Lines.{Bytes, Form, register, registerPlus, atRegisterPlus, cfaPlus, atCfaPlus, atCfaMinus, Rule, rule, Line, init, later, win, cfa}
 use Rattle.lines.specs.Lines.{formText, ruleText, rulesText, initText, laterText, flag, winText, lineText, render, solid, nameByte, nameOk, formOk, ruleOk, lineOk}
 use Rattle.lines.specs.Cut.{free, cut, cut-block, cut-words, cut-ended, spaced, ended, after, after-words}

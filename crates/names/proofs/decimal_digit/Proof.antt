@@ -1,5 +1,5 @@
 -- `decimal_digit`: by the first case of `digit`.
-use Rattle.text.specs.Digits.{digit}
+use Rattle.digits.specs.Digits.{digit}
 use borrow.Author.Tests.{lt-ltb}
 use native.Mathlib.Omega.{arith}
 use borrow.Author.Needs.{needs}

@@ -8,8 +8,8 @@ use mathlib.Core.List.{List, [], _∷_, _++_, append-nil, map, map-append, rever
 use lib.Dec.{T, ltb, leb, eqb, leb→le}
 use borrow.Author.Tests.{eq-eqb, ne-eqb, lt-ltb, le-ltb, le-leb, lt-leb}
 use Rattle.text.specs.Tests.{all, all-mono, and-l, both}
-use Rattle.text.specs.Digits.{digit, hex}
-use Rattle.text.specs.Digits.Laws.{hex-all}
+use Rattle.digits.specs.Digits.{digit, hex}
+use Rattle.digits.specs.Digits.Laws.{hex-all}
 use Rattle.lines.specs.declared.StackInfo.{StackInfo}
 use Rattle.lines.specs.Lines.{lineText, render, lineOk}
 use Rattle.lines.specs.Lines.Laws.{render-append, render-unless}

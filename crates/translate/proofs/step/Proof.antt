@@ -44,8 +44,8 @@ returns-3 c =
     (omega arith) (args .text .now) (args .used) (omega arith) (omega arith)
     (c .before .before .if1 .left) (omega (arith, c .before .if2 .left)) (omega (arith, c .if3 .taken))
 
-copy-requires : tie.Need-copy-requires
-copy-requires c κs = search needs
+put-front-requires : tie.Need-put-front-requires
+put-front-requires c κs = search needs
 
 same-length-4 : tie.Need-same-length-4
 same-length-4 c = search needs
@@ -63,7 +63,7 @@ returns-4 c =
     let args = start .args in
     copied {e = entryOf (args .kind) (args .limit) (args .last) (args .body .now)} (c .before .before .before .before .before .before .before .before .before .before .before .process .ensures)
     (omega arith) (args .text .now) (args .used) (omega arith) small (if1 .left) (if2 .left)
-    (if3 .left) _ _ (c .before .before .copy .ensures)
+    (if3 .left) _ _ (c .before .before .put-front .ensures)
 
 pub step-spec : {M : Type 1} → statement M
 step-spec =
@@ -77,7 +77,7 @@ step-spec =
     sub-if3
     same-length-3
     returns-3
-    copy-requires
+    put-front-requires
     same-length-4
     same-length-5
     returns-4)

@@ -11,7 +11,7 @@ use Rattle.text.specs.Tests.{is-true, and-l, and-r}
 use Rattle.x64.specs.declared.Op.{Op}
 use Rattle.x64.specs.declared.Op.the-variants.{PushNonVolatile, Alloc, SaveRsp, SaveFp, SetFpRegister, PushMachineFrame, Other, Undecodable}
 use Rattle.x64.specs.declared.Scan.{Scan}
-use Rattle.names.specs.Names.{peName}
+use Rattle.tables.specs.Tables.{peName}
 use Rattle.x64.specs.X64.{chain, growthOf, valueOf, run, total, cfaText, setText, cfaOr, isMachine, anyMachine, isSet, setCount, inReach, x64Layout}
 use Rattle.x64.specs.Index.{within, reaches, chain-reach, chainNumber}
 use Rattle.x64.specs.Scan.{scanStart, lose, grown, framed, machined, advance, scanStep, scanned, cfaOf, scanNumber, Small}

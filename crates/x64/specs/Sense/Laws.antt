@@ -13,11 +13,11 @@ use lib.IntN.{pos, subℕ}
 use lib.Dec.{T, eqb}
 use Rattle.text.specs.Text.{ascii}
 use Rattle.text.specs.Tests.{is-true, all, all-append, and-l, both}
-use Rattle.text.specs.Digits.{hex}
-use Rattle.names.specs.Names.{peName}
+use Rattle.digits.specs.Digits.{hex}
+use Rattle.tables.specs.Tables.{peName}
 use Rattle.lines.specs.Lines.{Bytes, Form, registerPlus, atCfaMinus, rule, init, cfa, ruleText, rulesText, initText, lineText, render, nameOk, registerOk, formOk, ruleOk, lineOk}
 use Rattle.lines.specs.Lines.Laws.{rules-append, render-unless}
-use Rattle.lines.specs.Rules.Laws.{pe-ok}
+use Rattle.rules.specs.Rules.Laws.{pe-ok}
 use Rattle.entry.specs.declared.Last.{Last}
 use Rattle.entry.specs.Entry.{word}
 use Rattle.entry.specs.Entry.Laws.{Accepted, accepted}

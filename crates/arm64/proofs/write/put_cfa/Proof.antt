@@ -8,7 +8,7 @@ use Rattle.text.specs.Text.Laws.{put-as}
 use Rattle.text.specs.Text.{ascii}
 use Rattle.text.specs.Text.Laws.{put-none}
 use Rattle.lines.specs.Lines.{rule, cfa, registerPlus, formText, ruleText}
-use Rattle.lines.specs.Rules.{ruleOf, regName, formOf}
+use Rattle.rules.specs.Rules.{ruleOf, regName, formOf}
 use Rattle.arm64.specs.Arm64.{cfaText}
 use Rattle.lines.specs.Lines.Laws.{sub-none}
 use native.Mathlib.Omega.{arith}

@@ -1,7 +1,7 @@
 -- `put_default_cfa`: by the flag.
 use Rattle.text.specs.Text.Laws.{put-none}
 use Rattle.lines.specs.Lines.{formText, ruleText}
-use Rattle.lines.specs.Rules.{ruleOf, regName, formOf}
+use Rattle.rules.specs.Rules.{ruleOf, regName, formOf}
 use native.Mathlib.Omega.{arith}
 use borrow.Author.Needs.{needs}
 use Rattle.arm64.proofs.write.put_default_cfa.Statement.{statement}

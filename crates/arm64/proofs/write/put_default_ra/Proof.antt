@@ -1,9 +1,9 @@
 -- `put_default_ra`: by the flag; the name computes.
 use Rattle.text.specs.Text.Laws.{put-none}
-use Rattle.text.specs.Digits.{Digits·open}
+use Rattle.digits.specs.Digits.{Digits·open}
 use Rattle.names.specs.Names.{arm64Name, letterOf}
 use Rattle.lines.specs.Lines.{formText, ruleText}
-use Rattle.lines.specs.Rules.{ruleOf, regName, formOf}
+use Rattle.rules.specs.Rules.{ruleOf, regName, formOf}
 use native.Mathlib.Omega.{arith}
 use borrow.Author.Needs.{needs}
 use Rattle.arm64.proofs.write.put_default_ra.Statement.{statement}

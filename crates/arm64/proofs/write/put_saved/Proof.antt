@@ -7,7 +7,7 @@ use mir.Facts.{toZ-ofZ}
 use Rattle.text.specs.Text.Laws.{put-as}
 use Rattle.names.specs.Names.{nameText}
 use Rattle.lines.specs.Lines.{rule, atCfaPlus, formText, ruleText}
-use Rattle.lines.specs.Rules.{ruleOf, formOf}
+use Rattle.rules.specs.Rules.{ruleOf, formOf}
 use borrow.Author.Needs.{needs}
 use Rattle.arm64.proofs.write.put_saved.Statement.{statement}
 use Rattle.arm64.proofs.write.put_saved.Tie as tie

@@ -8,10 +8,10 @@ use mir.Syntax.{w64}
 use mir.Val.{SFits}
 use mir.Facts.{toZ-ofZ}
 use Rattle.text.specs.Text.{ascii}
-use Rattle.text.specs.Digits.{signed}
-use Rattle.names.specs.Names.{cfiName}
+use Rattle.digits.specs.Digits.{signed}
+use Rattle.tables.specs.Tables.{cfiName}
 use Rattle.lines.specs.Lines.{formText, ruleText}
-use Rattle.lines.specs.Rules.{ruleOf, regName, formOf}
+use Rattle.rules.specs.Rules.{ruleOf, regName, formOf}
 use Rattle.dwarf.specs.Dwarf.{any, cfaBytes}
 use Rattle.dwarf.specs.Cache.{formatted}
 use borrow.Author.Needs.{needs}

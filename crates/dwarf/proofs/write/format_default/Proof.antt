@@ -1,6 +1,6 @@
 -- `format_default`: written for families 3 to 9 with a name.
 use Rattle.lines.specs.Lines.{formText, ruleText}
-use Rattle.lines.specs.Rules.{ruleOf, regName, formOf}
+use Rattle.rules.specs.Rules.{ruleOf, regName, formOf}
 use Rattle.dwarf.specs.Dwarf.{raBytes}
 use Rattle.dwarf.specs.Cache.{formatted}
 use borrow.Author.Needs.{needs}

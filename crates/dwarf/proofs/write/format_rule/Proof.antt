@@ -1,8 +1,8 @@
 -- `format_rule`: the form under .ra or under the table name.
 use borrow.Author.Tests.{eq-eqb, ne-eqb}
-use Rattle.names.specs.Names.{cfiName}
+use Rattle.tables.specs.Tables.{cfiName}
 use Rattle.lines.specs.Lines.{formText, ruleText}
-use Rattle.lines.specs.Rules.{ruleOf, regName, formOf}
+use Rattle.rules.specs.Rules.{ruleOf, regName, formOf}
 use Rattle.dwarf.specs.Dwarf.{formBytes, ruleBytes}
 use Rattle.dwarf.specs.Cache.{formed, formatted}
 use Rattle.dwarf.proofs.Forms.{named-ra, named-of}

@@ -1,6 +1,6 @@
 -- `has_name`: a name is there where its length is not 0.
 use mathlib.Core.Path.{_∙_}
-use Rattle.names.specs.Names.{cfiName}
+use Rattle.tables.specs.Tables.{cfiName}
 use Rattle.dwarf.proofs.Forms.{any-length}
 use borrow.Author.Needs.{needs}
 use Rattle.dwarf.proofs.write.has_name.Statement.{statement}

@@ -1,7 +1,7 @@
 -- `register_form`: there is a form where there is a name.
-use Rattle.names.specs.Names.{cfiName}
+use Rattle.tables.specs.Tables.{cfiName}
 use Rattle.lines.specs.Lines.{formText}
-use Rattle.lines.specs.Rules.{formOf, regName}
+use Rattle.rules.specs.Rules.{formOf, regName}
 use Rattle.dwarf.specs.Cache.{formed}
 use Rattle.dwarf.proofs.Forms.{name-form}
 use borrow.Author.Needs.{needs}

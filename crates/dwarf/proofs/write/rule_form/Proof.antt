@@ -7,9 +7,9 @@ use mir.Val.{SFits}
 use mir.Facts.{toZ-ofZ}
 use borrow.Author.Tests.{eq-eqb, ne-eqb}
 use Rattle.text.specs.Text.{ascii}
-use Rattle.text.specs.Digits.{signed}
+use Rattle.digits.specs.Digits.{signed}
 use Rattle.lines.specs.Lines.{formText}
-use Rattle.lines.specs.Rules.{formOf}
+use Rattle.rules.specs.Rules.{formOf}
 use Rattle.dwarf.specs.Dwarf.{any, formBytes}
 use Rattle.dwarf.specs.Cache.{formed}
 use borrow.Author.Needs.{needs}

@@ -4,8 +4,8 @@ use mir.Syntax.{w64}
 use mir.Val.{SFits}
 use mir.Facts.{toZ-ofZ}
 use Rattle.text.specs.Text.Laws.{put-as}
-use Rattle.names.specs.Names.{peName}
-use Rattle.lines.specs.Rules.{ruleOf, regName, formOf}
+use Rattle.tables.specs.Tables.{peName}
+use Rattle.rules.specs.Rules.{ruleOf, regName, formOf}
 use Rattle.x64.specs.X64.{framedText}
 use Rattle.x64.specs.Index.{framed-rule}
 use borrow.Author.Needs.{needs}

@@ -2,7 +2,7 @@
 use Prim.Native.Nat.{_+_}
 use Rattle.text.specs.Text.{ascii}
 use Rattle.text.specs.Text.Laws.{_⨾_}
-use Rattle.names.specs.Names.{peName, pe-x64}
+use Rattle.tables.specs.Tables.{peName, pe-x64}
 use Rattle.x64.specs.X64.{machineText}
 use Rattle.x64.proofs.Rules.{put-place}
 use borrow.Author.Needs.{needs}

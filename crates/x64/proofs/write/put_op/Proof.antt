@@ -1,7 +1,7 @@
 -- `put_op`: by cases of the operation: one rule, two, or none.
 use Prim.Native.Nat.{_+_}
 use Rattle.text.specs.Text.Laws.{put-none}
-use Rattle.names.specs.Names.{peName}
+use Rattle.tables.specs.Tables.{peName}
 use Rattle.x64.specs.X64.{opText}
 use Rattle.x64.proofs.Rules.{put-place}
 use native.Mathlib.Omega.{arith}

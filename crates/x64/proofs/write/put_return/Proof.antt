@@ -5,7 +5,7 @@ use mir.Val.{SFits}
 use mir.Facts.{toZ-ofZ}
 use Rattle.text.specs.Text.{ascii}
 use Rattle.text.specs.Text.Laws.{put-as}
-use Rattle.lines.specs.Rules.{ruleOf, formOf}
+use Rattle.rules.specs.Rules.{ruleOf, formOf}
 use Rattle.lines.specs.Lines.Laws.{sub-none}
 use Rattle.x64.specs.X64.{savedText}
 use Rattle.x64.specs.Index.{saved-rule}

@@ -2,7 +2,7 @@
 use mathlib.Core.Path.{ap}
 use Rattle.text.specs.Text.{ascii}
 use Rattle.text.specs.Text.Laws.{put-as}
-use Rattle.names.specs.Names.{peName, pe-x64}
+use Rattle.tables.specs.Tables.{peName, pe-x64}
 use Rattle.x64.specs.X64.{cfaText}
 use Rattle.x64.specs.Scan.{cfaOf}
 use Rattle.lines.specs.Lines.Laws.{sub-none}
