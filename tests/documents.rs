@@ -1,6 +1,6 @@
 //! Holds the documents to the sources: every name in the tables of ARCHITECTURE.md and PROOFS.md stands in the code, the definitions or the proofs,
 //! every law in the file beside it, and every file that they name is there; every public function has a row, every must-fail edit and planted fault
-//! is named, and none that is not there; what has to be believed is listed (reach.rs), and what a sense shares with the text; no line of a proof is too long; every link leads to a file.
+//! is named, and none that is not there; what has to be believed is listed (reach.rs), and what a sense shares with the text; no line of a definition or a proof is too long; every link leads to a file.
 //!
 //! Run from the repository's root. The last line is 'N passed, M failed'.
 
@@ -12,7 +12,7 @@ use std::fs;
 use std::path::{Path, PathBuf};
 use tally::Tally;
 
-/// Characters of a line of a proof, at most.
+/// Characters of a line of a definition or a proof, at most.
 const LONGEST_LINE: usize = 200;
 
 fn read(path: impl AsRef<Path>) -> String {
@@ -227,9 +227,9 @@ fn shared(t: &mut Tally, proofs: &str) {
     }
 }
 
-/// No line of a proof is longer than can be read.
+/// No line of a definition or a proof is longer than can be read.
 fn lengths(t: &mut Tally) {
-    for path in files(Path::new("crates"), ".antt").iter().filter(|p| p.components().any(|c| c.as_os_str() == "proofs")) {
+    for path in &files(Path::new("crates"), ".antt") {
         let longest = read(path).lines().map(|l| l.chars().count()).max().unwrap_or(0);
         t.check(longest <= LONGEST_LINE, &format!("{}: a line of {longest} characters", path.display()));
     }

@@ -72,6 +72,7 @@ module _ {ws : List ℕ} {a z : ℕ} {d : List ℕ} {at : ℕ} {t d₁ : List �
     text = left-put (rw (ops-step ws 3 k h) at (l .text)) (rw (step-text e (next ws k)) at x);
   })
 
-pub lines-done : {ws : List ℕ} {a z : ℕ} {d : List ℕ} {at : ℕ} {t d₁ : List ℕ} {p : ℕ} {e : BreakpadEncoder} {i k : ℕ} → LinesLeft ws a z d at t d₁ p e i k → k ≤ 0 → Put d at t d₁ p
+pub lines-done : {ws : List ℕ} {a z : ℕ} {d : List ℕ} {at : ℕ} {t d₁ : List ℕ} {p : ℕ} {e : BreakpadEncoder} {i k : ℕ}
+    → LinesLeft ws a z d at t d₁ p e i k → k ≤ 0 → Put d at t d₁ p
 unfolding run opsRun
 lines-done {k = k} l h = let q : k ≡ 0 = omega arith in left-none (rw q at (l .text))

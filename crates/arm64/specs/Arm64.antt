@@ -261,5 +261,7 @@ armEntry last ws = comesTo (armJudged ws) (armText ws) last last
 
 -- what to unfold where ARM64 entries are to compute
 unfoldable pub Arm64·open : Type 0
-unfolding Digits·open letterOf arm64Name inside opOf counting ops width above growthOf writesCfa saves lastAfter writesRa savedText cfaText raText savesText opText defaultsText firstLine laterLine nthLine run armText opFits opsFit armLayout undecodable armSkipped valueOf savedFits savesFit fits inReach armJudged armEntry
+unfolding Digits·open letterOf arm64Name inside opOf counting ops width above growthOf writesCfa saves lastAfter writesRa savedText cfaText raText
+    savesText opText defaultsText firstLine laterLine nthLine run armText opFits opsFit armLayout undecodable armSkipped valueOf savedFits savesFit
+    fits inReach armJudged armEntry
 Arm64·open = Unit {0}

@@ -7,14 +7,28 @@ ghost use lib.IntN.{natAbs};
 ghost use Rattle.text.specs.Text.{Put};
 ghost use Rattle.digits.specs.Digits.{digit, digits, hex, decimal, signed};
 
-fn digit_of(n: u64) -> u8
+// The byte of a digit; the compiler makes a table of it.
+pub fn digit_of(n: u64) -> u8
     requires { ⌜ n < 16 ⌝ }
     ensures { λ r. ⌜ r ≡ digit n ⌝ }
 {
-    if n < 10 {
-        b'0' + n as u8
-    } else {
-        b'a' - 10 + n as u8
+    match n {
+        0 => b'0',
+        1 => b'1',
+        2 => b'2',
+        3 => b'3',
+        4 => b'4',
+        5 => b'5',
+        6 => b'6',
+        7 => b'7',
+        8 => b'8',
+        9 => b'9',
+        10 => b'a',
+        11 => b'b',
+        12 => b'c',
+        13 => b'd',
+        14 => b'e',
+        _ => b'f',
     }
 }
 
@@ -64,30 +78,6 @@ fn put_digits_fitting(out: &mut [u8], at: usize, x: u64, base: u64) -> usize
     put_byte(out, p, digit_of(x % base))
 }
 
-fn hex_digit(n: u64) -> u8
-    requires { ⌜ n < 16 ⌝ }
-    ensures { λ r. ⌜ r ≡ digit n ⌝ }
-{
-    match n {
-        0 => b'0',
-        1 => b'1',
-        2 => b'2',
-        3 => b'3',
-        4 => b'4',
-        5 => b'5',
-        6 => b'6',
-        7 => b'7',
-        8 => b'8',
-        9 => b'9',
-        10 => b'a',
-        11 => b'b',
-        12 => b'c',
-        13 => b'd',
-        14 => b'e',
-        _ => b'f',
-    }
-}
-
 // Four bits make a digit; 0 has one.
 fn hex_count(x: u64) -> usize
     ensures { λ r. ⌜ r ≡ length (hex x) ⌝ }
@@ -109,7 +99,7 @@ pub fn put_hex(out: &mut [u8], at: usize, x: u64) -> usize
             let mut k = n;
             while 0 < k {
                 k -= 1;
-                out[at + k] = hex_digit(v % 16);
+                out[at + k] = digit_of(v % 16);
                 v = v / 16;
             }
             return at + n;

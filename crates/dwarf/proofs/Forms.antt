@@ -8,6 +8,7 @@ use lib.ListN.{length, List·getD-eq-default}
 use lib.Dec.{eqb, ltb}
 use borrow.Author.Tests.{eq-eqb, ne-eqb, eqb-true, eqb-false, lt-ltb, le-ltb}
 use Rattle.text.specs.Text.{ascii, MAX, Put}
+use Rattle.text.specs.Tests.{any}
 use Rattle.text.specs.Text.Laws.{put-as, put-none}
 use Rattle.tables.specs.Tables.{table, cfiName, i386, x86-64, arm, arm64, ppc, mips}
 use Rattle.lines.specs.Lines.{Bytes, ruleText}
@@ -15,13 +16,8 @@ use Rattle.rules.specs.Rules.{ruleOf}
 use Rattle.dwarf.specs.declared.RegisterRule.{RegisterRule}
 use Rattle.dwarf.specs.declared.CfaRule.{CfaRule}
 use Rattle.dwarf.specs.declared.Formatted.{Formatted}
-use Rattle.dwarf.specs.Dwarf.{any, formBytes, namedBytes, cfaDiffers, lastCfa}
+use Rattle.dwarf.specs.Dwarf.{formBytes, namedBytes, cfaDiffers, lastCfa}
 use Rattle.dwarf.specs.Cache.{cfaIf, formatted}
-
-pub any-length : (n : List ℕ) → not (eqb (length n) 0) ≡ any n
-unfolding any
-any-length [] = refl
-any-length (c ∷ n) = ap not (ne-eqb (length (c ∷ n)) 0 (λ e. omega arith))
 
 -- ---- no table reaches register 65,536
 

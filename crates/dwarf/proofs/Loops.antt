@@ -8,14 +8,14 @@ use lib.ListN.{length}
 use lib.Dec.{T, ltb, eqb}
 use Rattle.text.specs.Text.{MAX, Put, Left}
 use Rattle.text.specs.Text.Laws.{left-all, left-put, left-as, left-none}
-use Rattle.text.specs.Tests.{and-l, and-r}
+use Rattle.text.specs.Tests.{and-l, and-r, any}
 use Rattle.dwarf.specs.declared.RegisterRule.{RegisterRule}
 use Rattle.dwarf.specs.declared.RuleCache.{RuleCache}
 use Rattle.dwarf.specs.declared.RowState.{RowState}
 use Rattle.dwarf.specs.declared.Fde.{Fde}
 use Rattle.entry.specs.Entry.{word}
 use Rattle.dwarf.specs.Dwarf.{wide, ruleAt, rulesFrom, ruleCount, nextRow, rowAt, rowsFrom, rowCount, rows, lastEnd, anyBelow, registers, rulesOf, member, once, rowFits}
-use Rattle.dwarf.specs.Dwarf.{rowsFit, dwarfLayout, Seen, differs, remember, any, ruleBytes, seenAfter, ranRules, ranMoved, ranRow, ranRows, CfaSeen, noCfa, lastCfa, nothingSeen}
+use Rattle.dwarf.specs.Dwarf.{rowsFit, dwarfLayout, Seen, differs, remember, ruleBytes, seenAfter, ranRules, ranMoved, ranRow, ranRows, CfaSeen, noCfa, lastCfa, nothingSeen}
 use Rattle.dwarf.proofs.Store.{newly-few}
 use Rattle.dwarf.specs.Cache.{placeOf, lookup, newly, fresh, cfaOf, Scanned, After}
 use Rattle.dwarf.specs.Index.{rules-step, rows-step, rows-fit-step, row-few, row-bound, layout-few, layout-rows, layout-distinct, fresh-append, fresh-distinct, rowRules, once-rest, fresh-free}

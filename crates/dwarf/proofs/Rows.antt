@@ -4,18 +4,20 @@ use Prim.Native.Nat.{ℕ, _+_}
 use mathlib.Core.Bool.{Bool, true, cond, _||_}
 use mathlib.Core.List.{List, []}
 use Rattle.text.specs.Text.{ascii, Put}
+use Rattle.text.specs.Tests.{any}
 use Rattle.text.specs.Text.Laws.{put-as, _⨾_}
 use Rattle.dwarf.specs.declared.CfaRule.{CfaRule}
 use Rattle.dwarf.specs.declared.RuleCache.{RuleCache}
 use Rattle.dwarf.specs.declared.RowState.{RowState}
 use Rattle.dwarf.specs.declared.RowScan.{RowScan}
 use Rattle.dwarf.specs.declared.Fde.{Fde}
-use Rattle.dwarf.specs.Dwarf.{wide, rulesFrom, cfaAt, ruleCount, rowAt, any, cfaBytes, defaultBytes, startBytes, lineBytes, rowBytes, cfaDiffers, lastCfa, ranRules, ranParts, ranOf, ranRow}
-use Rattle.dwarf.specs.Cache.{lookup, cfaOf, Scanned, After}
+use Rattle.dwarf.specs.Dwarf.{wide, rulesFrom, cfaAt, ruleCount, rowAt, cfaBytes, defaultBytes, startBytes, lineBytes, rowBytes, cfaDiffers, lastCfa, ranRules, ranOf, ranRow}
+use Rattle.dwarf.specs.Cache.{lookup, cfaOf, Scanned, After, ranParts}
 use Rattle.dwarf.proofs.Loops.{any-append}
 
 -- the line of the row at word a, whose CFA is x, which changed or did not, and which has n rules
-pub put-line-parts : {d d₁ d₂ d₃ d₄ d₅ : List ℕ} {at r₁ r₂ r₃ r₄ r₅ : ℕ} (e : Fde) (ws : List ℕ) (a : ℕ) (c : RuleCache) (start n : ℕ) (x : CfaRule) (changed moved : Bool)
+pub put-line-parts : {d d₁ d₂ d₃ d₄ d₅ : List ℕ} {at r₁ r₂ r₃ r₄ r₅ : ℕ}
+    (e : Fde) (ws : List ℕ) (a : ℕ) (c : RuleCache) (start n : ℕ) (x : CfaRule) (changed moved : Bool)
     → start ≡ wide ws a → x ≡ cfaAt ws a → n ≡ ruleCount ws a
     → Put d at (startBytes e start) d₁ r₁ → Put d₁ r₁ (cond changed (cfaBytes (e .family) x) []) d₂ r₂
     → Put d₂ r₂ (ranRules (e .family) (e .ra) (lookup c) (rulesFrom ws n (a + 9))) d₃ r₃

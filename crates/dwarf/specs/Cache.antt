@@ -5,10 +5,12 @@ use mathlib.Core.List.{List, [], _∷_, _++_}
 use Prim.Native.Nat.{ℕ, suc, _+_}
 use lib.ListN.{take, getD}
 use lib.Dec.{eqb, ltb}
+use Rattle.text.specs.Tests.{any}
 use Rattle.lines.specs.Lines.{formText, ruleText}
 use Rattle.rules.specs.Rules.{formOf, ruleOf}
 use Rattle.dwarf.specs.declared.RegisterRule.{RegisterRule}
 use Rattle.dwarf.specs.declared.CfaRule.{CfaRule}
+use Rattle.dwarf.specs.declared.Fde.{Fde}
 use Rattle.dwarf.specs.declared.RuleCache.{RuleCache}
 use Rattle.dwarf.specs.declared.RowState.{RowState}
 use Rattle.dwarf.specs.declared.RowScan.{RowScan}
@@ -16,7 +18,7 @@ use Rattle.dwarf.specs.declared.Registers.{Registers}
 use Rattle.dwarf.specs.declared.Met.{Met}
 use Rattle.dwarf.specs.declared.Formed.{Formed}
 use Rattle.dwarf.specs.declared.Formatted.{Formatted}
-use Rattle.dwarf.specs.Dwarf.{Seen, never, seen, CfaSeen, noCfa, lastCfa, distinct, remember, Row, any, seenAfter, ranRules, ranMoved}
+use Rattle.dwarf.specs.Dwarf.{Seen, never, seen, CfaSeen, noCfa, lastCfa, distinct, remember, Row, cfaBytes, seenAfter, ranRules, ranMoved}
 
 -- the first place of q in a list, or the list's length
 unfoldable pub firstIn : List ℕ → ℕ → ℕ
@@ -81,6 +83,10 @@ pub record After (s : RowState) (w : Row) (r : RowState) : Type 0 where
   pub cfa-is : cfaOf r ≡ lastCfa (w .cfa)
   pub sees : lookup (r .rules) ≡ seenAfter (lookup (s .rules)) (w .rules)
   pub counts : r .rules .count ≡ s .rules .count + fresh (lookup (s .rules)) (w .rules)
+
+-- what a row writes, `ranOf`, once it is known whether its CFA changed
+abbrev pub ranParts : Fde → Bool → (ℕ → Seen) → Row → List ℕ
+ranParts e changed c w = cond changed (cfaBytes (e .family) (w .cfa)) [] ++ ranRules (e .family) (e .ra) c (w .rules)
 
 -- ---- the registers met in a body
 

@@ -7,6 +7,7 @@ use lib.ListN.{length}
 use lib.IntN.{ℤ, pos, negsuc}
 use lib.Dec.{ltb, leb, eqb}
 use Rattle.text.specs.Text.{ascii}
+use Rattle.text.specs.Tests.{any}
 use Rattle.digits.specs.Digits.{hex, signed, Digits·open}
 use Rattle.tables.specs.Tables.{cfiName, table, i386, x86-64, arm, arm64, ppc, mips}
 use Rattle.entry.specs.declared.Last.{Last}
@@ -184,11 +185,6 @@ dwarfJudged ws = cond (dwarfLayout ws) (cond (dwarfSkipped ws) Skip (cond (dwarf
 
 -- ---- what a rule and a CFA write, in bytes: none where a name lacks. An empty name is none.
 
--- is there anything
-unfoldable pub any : List ℕ → Bool
-any [] = false
-any (b ∷ bs) = true
-
 -- behind the colon: Q for same (0) and register (3), ".cfa N + ^" for offset (1), ".cfa N +" for value offset (2), nothing for other
 unfoldable pub formBytes : ℕ → RegisterRule → List ℕ
 formBytes f x =
@@ -278,11 +274,8 @@ ranMoved ra c [] = false
 ranMoved ra c (x ∷ xs) = (eqb (x .register) ra && differs (c (x .register)) (x .kind) (x .value)) || ranMoved ra (remember c x) xs
 
 -- a row's CFA, where it changed, then its rules
-abbrev pub ranParts : Fde → Bool → (ℕ → Seen) → Row → List ℕ
-ranParts e changed c w = cond changed (cfaBytes (e .family) (w .cfa)) [] ++ ranRules (e .family) (e .ra) c (w .rules)
-
 unfoldable pub ranOf : Fde → CfaSeen → (ℕ → Seen) → Row → List ℕ
-ranOf e s c w = ranParts e (cfaDiffers s (w .cfa)) c w
+ranOf e s c w = cond (cfaDiffers s (w .cfa)) (cfaBytes (e .family) (w .cfa)) [] ++ ranRules (e .family) (e .ra) c (w .rules)
 
 -- a row against what was last seen
 unfoldable pub ranRow : Fde → CfaSeen → (ℕ → Seen) → Row → List ℕ
@@ -307,5 +300,8 @@ dwarfEntry last ws = comesTo (dwarfJudged ws) (dwarfText ws) last last
 
 -- what to unfold where DWARF entries are to compute
 unfoldable pub Dwarf·open : Type 0
-unfolding Digits·open cfiName table i386 x86-64 arm arm64 ppc mips wide twos usedValue ruleAt rulesFrom cfaAt rowsFrom rows firstStart lastEnd fdeOf registers member once distinct ruleFits rulesFit cfaFits rowFits rowsFit rulesOf headFits dwarfLayout dwarfSkipped anyBelow dwarfReach dwarfJudged any formBytes namedBytes ruleBytes cfaBytes raBytes defaultBytes startBytes lineBytes rowBytes seenAfter ranRules ranMoved ranOf ranRow ranRows nothingSeen dwarfText dwarfEntry
+unfolding Digits·open cfiName table i386 x86-64 arm arm64 ppc mips wide twos usedValue ruleAt rulesFrom cfaAt rowsFrom rows firstStart lastEnd fdeOf
+    registers member once distinct ruleFits rulesFit cfaFits rowFits rowsFit rulesOf headFits dwarfLayout dwarfSkipped anyBelow dwarfReach dwarfJudged
+    any formBytes namedBytes ruleBytes cfaBytes raBytes defaultBytes startBytes lineBytes rowBytes seenAfter ranRules ranMoved ranOf ranRow ranRows
+    nothingSeen dwarfText dwarfEntry
 Dwarf·open = Unit {0}

@@ -95,5 +95,6 @@ passes k =
     && cond (eqb (k .number) 0) (eqw (render false (unskipped (k .words))) (k .text) && all lineOk (unskipped (k .words))) true
 
 pub worked : T (all passes cases)
-unfolding cases Dwarf·open Lines·open dwarfLines dwarfRows dwarfRow rowLine lineOf defaultRules newRules raDiffers raRules cfaRules cfaPlusRules ruleRules named ruleForms nameForm ruleFor lastRule lastCfaRule ruleDiffers cfaChanges endOf
+unfolding cases Dwarf·open Lines·open dwarfLines dwarfRows dwarfRow rowLine lineOf defaultRules newRules raDiffers raRules cfaRules cfaPlusRules
+    ruleRules named ruleForms nameForm ruleFor lastRule lastCfaRule ruleDiffers cfaChanges endOf
 worked = tt

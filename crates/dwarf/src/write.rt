@@ -49,9 +49,10 @@ ghost use Prim.Native.Nat.{_+_, _^_, _<_, _≤_};
 ghost use lib.ListN.{getD};
 ghost use lib.Dec.{T, eqb};
 ghost use Rattle.text.specs.Text.{Put, ascii};
+ghost use Rattle.text.specs.Tests.{any};
 ghost use Rattle.tables.specs.Tables.{cfiName};
-ghost use Rattle.dwarf.specs.Dwarf.{wide, rulesFrom, rows, registers, once, dwarfLayout, any, formBytes, ruleBytes, cfaBytes, raBytes, defaultBytes, startBytes, lineBytes, ranRow, cfaDiffers, ranRules, dwarfText, noCfa, nothingSeen, ranRows, ranParts, rowAt};
-ghost use Rattle.dwarf.specs.Cache.{lookup, cfaIf, cfaOf, fresh, Forms, formatted, Scanned, After};
+ghost use Rattle.dwarf.specs.Dwarf.{wide, rulesFrom, rows, registers, once, dwarfLayout, formBytes, ruleBytes, cfaBytes, raBytes, defaultBytes, startBytes, lineBytes, ranRow, cfaDiffers, ranRules, dwarfText, noCfa, nothingSeen, ranRows, rowAt};
+ghost use Rattle.dwarf.specs.Cache.{lookup, cfaIf, cfaOf, fresh, Forms, formatted, Scanned, After, ranParts};
 
 // The families whose return address is in a register at a function's start: from the first of these to the second.
 const FIRST_IN_REGISTER: u32 = 3;
@@ -89,16 +90,10 @@ fn cfa_differs(seen: bool, last: CfaRule, cfa: CfaRule) -> bool
     last.offset != cfa.offset
 }
 
-fn has_name(family: u32, register: u32) -> bool
-    ensures { λ r. ⌜ r ≡ any (cfiName family register) ⌝ }
-{
-    has_cfi_name(family, register)
-}
-
 fn register_form(family: u32, register: u32) -> Formed
     ensures { λ r. ⌜ Forms (cfiName family register) r ⌝ }
 {
-    let some = has_name(family, register);
+    let some = has_cfi_name(family, register);
     let reg = Reg::Cfi(family, register);
     let form = Form::Register(reg);
     Formed { some, form }
@@ -153,7 +148,7 @@ fn format_rule(family: u32, ra: u32, rule: RegisterRule) -> Formatted
         return Formatted { some: f.some, rule };
     }
     let name = cfi_register_name(family, rule.register);
-    let some = both(f.some, has_name(family, rule.register));
+    let some = both(f.some, has_cfi_name(family, rule.register));
     let rule = Rule { name, form };
     Formatted { some, rule }
 }
@@ -162,7 +157,7 @@ fn format_rule(family: u32, ra: u32, rule: RegisterRule) -> Formatted
 fn format_cfa(family: u32, cfa: CfaRule) -> Formatted
     ensures { λ r. ⌜ formatted r ≡ cfaBytes family cfa ⌝ }
 {
-    let named = has_name(family, cfa.register);
+    let named = has_cfi_name(family, cfa.register);
     let some = both(cfa.kind == CFA_REGISTER, named);
     let reg = Reg::Cfi(family, cfa.register);
     let form = Form::RegisterPlus(reg, signed_of(cfa.offset));
@@ -176,7 +171,7 @@ fn format_default(family: u32, ra: u32) -> Formatted
     ensures { λ r. ⌜ formatted r ≡ raBytes family ra ⌝ }
 {
     let kept = both(FIRST_IN_REGISTER <= family, family <= LAST_IN_REGISTER);
-    let some = both(kept, has_name(family, ra));
+    let some = both(kept, has_cfi_name(family, ra));
     let form = Form::Register(Reg::Cfi(family, ra));
     let name = ra_name();
     let rule = Rule { name, form };
@@ -240,14 +235,14 @@ fn name_written(family: u32, ra: u32, register: u32) -> bool
     if register == ra {
         return true;
     }
-    has_name(family, register)
+    has_cfi_name(family, register)
 }
 
 fn value_named(family: u32, value: u64) -> bool
     ensures { λ r. ⌜ r ≡ any (cfiName family value) ⌝ }
 {
     if value < REGISTER_VALUES {
-        return has_name(family, value as u32);
+        return has_cfi_name(family, value as u32);
     }
     false
 }
@@ -258,7 +253,7 @@ fn form_written(family: u32, rule: RegisterRule) -> bool
 {
     let kind = rule.kind;
     if kind == SAME {
-        return has_name(family, rule.register);
+        return has_cfi_name(family, rule.register);
     }
     if kind == REGISTER {
         return value_named(family, rule.value);

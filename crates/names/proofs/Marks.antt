@@ -7,6 +7,7 @@ use native.Mathlib.Omega.{arith}
 use lib.Dec.{eqb}
 use lib.ListN.{length, take}
 use borrow.Author.Tests.{ne-eqb}
+use Rattle.text.specs.Tests.{any}
 use Rattle.text.specs.Text.{ascii, unpackIn, unpack}
 use Rattle.digits.specs.Digits.{digit, decimal}
 use Rattle.digits.specs.Digits.Laws.{digits-one, digits-more}
@@ -22,10 +23,10 @@ take-low zero m = refl
 take-low (suc n) zero = refl
 take-low (suc n) (suc m) = ap (λ (bs : List ℕ). suc m % 256 ∷ bs) (take-low n (suc m / 256))
 
-pub mark-named : (m : ℕ) → not (eqb m 0) ≡ not (eqb (length (unpack m)) 0)
-unfolding unpack unpackIn
+pub mark-named : (m : ℕ) → not (eqb m 0) ≡ any (unpack m)
+unfolding unpack unpackIn any
 mark-named zero = refl
-mark-named (suc m) = rw (ne-eqb (suc m) 0 (λ e. omega arith), ne-eqb (suc (length (unpackIn 7 (suc m / 256)))) 0 (λ e. omega arith))
+mark-named (suc m) = rw (ne-eqb (suc m) 0 (λ e. omega arith))
 
 -- ---- registers of ARM64 unwind codes
 

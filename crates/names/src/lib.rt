@@ -1,4 +1,5 @@
 // Names of registers as records write them: in fixed bytes with a length, and put into a slice.
+use digits::digit_of;
 use digits::put_decimal;
 use tables::cfi_mark;
 use tables::pe_mark;
@@ -6,11 +7,9 @@ use text::put_byte;
 use text::put_front;
 use text::put_mark;
 ghost use mathlib.Core.Path.{_≡_};
-ghost use mathlib.Core.Bool.{not};
 ghost use mathlib.Core.List.{[], _∷_};
 ghost use Prim.Native.Nat.{_<_};
-ghost use lib.Dec.{eqb};
-ghost use lib.ListN.{length};
+ghost use Rattle.text.specs.Tests.{any};
 ghost use Rattle.text.specs.Text.{Put, unpack};
 ghost use Rattle.digits.specs.Digits.{digit};
 ghost use Rattle.tables.specs.Tables.{cfiName, peName};
@@ -23,7 +22,7 @@ pub struct Name {
 }
 
 pub fn has_cfi_name(family: u32, register: u32) -> bool
-    ensures { λ r. ⌜ r ≡ not (eqb (length (cfiName family register)) 0) ⌝ }
+    ensures { λ r. ⌜ r ≡ any (cfiName family register) ⌝ }
 {
     cfi_mark(family, register) != 0
 }
@@ -76,36 +75,30 @@ fn letter_byte(letter: u32) -> u8
     }
 }
 
-fn decimal_digit(n: u32) -> u8
-    requires { ⌜ n < 10 ⌝ }
-    ensures { λ r. ⌜ r ≡ digit n ⌝ }
-{
-    b'0' + n as u8
-}
-
 // A register of ARM64 unwind codes, by its letter and number.
 pub fn arm64_register_name(letter: u32, register: u32) -> Name
     requires { ⌜ register < 1000 ⌝ }
     ensures { λ r. ⌜ nameText r ≡ arm64Name letter register ⌝ }
 {
     let l = letter_byte(letter);
-    if register < 10 {
-        let ones = decimal_digit(register);
+    let n = register as u64;
+    if n < 10 {
+        let ones = digit_of(n);
         return Name {
             bytes: [b'.', l, ones, 0, 0, 0, 0, 0],
             len: 3,
         };
     }
-    let ones = decimal_digit(register % 10);
-    if register < 100 {
-        let tens = decimal_digit(register / 10);
+    let ones = digit_of(n % 10);
+    if n < 100 {
+        let tens = digit_of(n / 10);
         return Name {
             bytes: [b'.', l, tens, ones, 0, 0, 0, 0],
             len: 4,
         };
     }
-    let tens = decimal_digit(register / 10 % 10);
-    let hundreds = decimal_digit(register / 10 / 10);
+    let tens = digit_of(n / 10 % 10);
+    let hundreds = digit_of(n / 10 / 10);
     Name {
         bytes: [b'.', l, hundreds, tens, ones, 0, 0, 0],
         len: 5,

@@ -213,5 +213,7 @@ pdbEntry last ws = comesTo (pdbJudged last ws) (pdbText ws) last (leaves ws)
 
 -- what to unfold where PDB entries are to compute
 unfoldable pub Pdb·open : Type 0
-unfolding Digits·open rangeAt ranges wordsFrom prologs codes program sizesFit flagsFit hasProgram lengthFits countsFit rangeFits apart differ rangesFit printable restFits pdbLayout leaves repeats pdbSkipped inReach lead trim tailText maxStack numbersText rangeText insert sorted prologOf rangesText contiguous bothText pdbText pdbJudged pdbEntry
+unfolding Digits·open rangeAt ranges wordsFrom prologs codes program sizesFit flagsFit hasProgram lengthFits countsFit rangeFits apart differ
+    rangesFit printable restFits pdbLayout leaves repeats pdbSkipped inReach lead trim tailText maxStack numbersText rangeText insert sorted prologOf
+    rangesText contiguous bothText pdbText pdbJudged pdbEntry
 Pdb·open = Unit {0}

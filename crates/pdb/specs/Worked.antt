@@ -91,5 +91,6 @@ passes k =
     && (eqw (e .text) (k .text) && (cond (eqb (k .number) 0) (eqw (render false (unskipped (k .last) (k .body))) (k .text)) true && eqb (e .next .start .0) (k .next)))
 
 worked : T (all passes cases)
-unfolding cases Pdb·open Lines·open withProgram noFront before noBack winTail mostStack fieldsOf prologFields codeFields bothFields placed byStart meets stackInfos winLine pdbLines
+unfolding cases Pdb·open Lines·open withProgram noFront before noBack winTail mostStack fieldsOf prologFields codeFields bothFields placed byStart
+    meets stackInfos winLine pdbLines
 worked = tt

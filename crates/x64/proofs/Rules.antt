@@ -19,7 +19,8 @@ pub put-line : {d d₁ d₂ d₃ d₄ d₅ : List ℕ} {at r₁ r₂ r₃ r₄ r
     → Put d at (initText b z) d₁ r₁ → Put d₁ r₁ x d₂ r₂ → Put d₂ r₂ y d₃ r₃ → Put d₃ r₃ w d₄ r₄ → Put d₄ r₄ (ascii "\n") d₅ r₅
     → Put d at (ascii "STACK CFI INIT " ++ hex b ++ ascii " " ++ hex z ++ (x ++ y ++ w) ++ ascii "\n") d₅ r₅
 unfolding initText
-put-line b z x y w p₁ p₂ p₃ p₄ p₅ = put-as (p₁ ⨾ p₂ ⨾ p₃ ⨾ p₄ ⨾ p₅) (ap (λ (t : Bytes). t ++ ascii "\n") (join (ascii "STACK CFI INIT " ++ hex b ++ ascii " " ++ hex z) x y w))
+put-line b z x y w p₁ p₂ p₃ p₄ p₅ =
+    put-as (p₁ ⨾ p₂ ⨾ p₃ ⨾ p₄ ⨾ p₅) (ap (λ (t : Bytes). t ++ ascii "\n") (join (ascii "STACK CFI INIT " ++ hex b ++ ascii " " ++ hex z) x y w))
   where
     join : (i x y w : Bytes) → i ++ x ++ y ++ w ≡ i ++ (x ++ y ++ w)
     join i x y w = simp append-assoc

@@ -258,5 +258,7 @@ x64Entry limit last ws = comesTo (x64Judged limit ws) (x64Text ws) last last
 
 -- what to unfold where x64 entries are to compute
 unfoldable pub X64·open : Type 0
-unfolding Digits·open peName pe-x64 opOf stored infos inOrder chain growthOf valueOf savedText framedText machineText opText cfaText setText isMachine anyMachine run total cfaOr raText rulesRun x64Text opFits opsFit infoFits infosFit x64Layout allZero undecodableOps undecodableInfos x64Skipped inside printed inReach isSet setCount x64Reach x64Judged x64Entry
+unfolding Digits·open peName pe-x64 opOf stored infos inOrder chain growthOf valueOf savedText framedText machineText opText cfaText setText isMachine
+    anyMachine run total cfaOr raText rulesRun x64Text opFits opsFit infoFits infosFit x64Layout allZero undecodableOps undecodableInfos x64Skipped
+    inside printed inReach isSet setCount x64Reach x64Judged x64Entry
 X64·open = Unit {0}

@@ -30,8 +30,8 @@ loop-holds c =
 sub-k : tie.Need-sub-k Inv-loop μ-loop
 sub-k c = search needs
 
-hex-digit-requires : tie.Need-hex-digit-requires Inv-loop μ-loop
-hex-digit-requires c κs = search needs
+digit-of-requires : tie.Need-digit-of-requires Inv-loop μ-loop
+digit-of-requires c κs = search needs
 
 add-out : tie.Need-add-out Inv-loop μ-loop
 add-out c = search needs
@@ -44,7 +44,7 @@ loop-less c = search needs
 
 loop-again : tie.Need-loop-again Inv-loop μ-loop
 loop-again c =
-    (omega arith, search needs, back-more (c .hex-digit .result) (omega arith) (c .before .before .loop .inv .2) (c .hex-digit .ensures))
+    (omega arith, search needs, back-more (c .digit-of .result) (omega arith) (c .before .before .loop .inv .2) (c .digit-of .ensures))
 
 add-result : tie.Need-add-result Inv-loop μ-loop
 add-result c = search needs
@@ -81,7 +81,7 @@ put-hex-spec =
     sub-if2
     loop-holds
     sub-k
-    hex-digit-requires
+    digit-of-requires
     add-out
     slice-write-out
     loop-less

@@ -227,7 +227,8 @@ signed-pos (negsuc n) e = absurd (subst T e tt)
 pub put-digit : {d d₁ : List ℕ} {at r₁ x : ℕ} (b n : ℕ) → Put d at (x ∷ []) d₁ r₁ → x ≡ digit n → n < b → Put d at (digits b n) d₁ r₁
 put-digit b n p e h = rw (digits-one b n h, ← e) p
 
-pub put-digits : {d d₁ d₂ : List ℕ} {at r₁ r₂ x : ℕ} (b n : ℕ) → Put d at (digits b (n / b)) d₁ r₁ → Put d₁ r₁ (x ∷ []) d₂ r₂ → x ≡ digit (n % b) → b ≤ n → 1 < b → Put d at (digits b n) d₂ r₂
+pub put-digits : {d d₁ d₂ : List ℕ} {at r₁ r₂ x : ℕ} (b n : ℕ)
+    → Put d at (digits b (n / b)) d₁ r₁ → Put d₁ r₁ (x ∷ []) d₂ r₂ → x ≡ digit (n % b) → b ≤ n → 1 < b → Put d at (digits b n) d₂ r₂
 put-digits b n p q e h two = rw (digits-more b n two h, ← e) (p ⨾ q)
 
 -- ---- the definitions compute, at both ends of the ranges

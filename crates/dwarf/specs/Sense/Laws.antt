@@ -8,7 +8,7 @@ use native.Mathlib.Omega.{arith}
 use lib.Dec.{T, eqb, leb}
 use Rattle.text.specs.Text.{ascii}
 use Rattle.digits.specs.Digits.{hex, signed}
-use Rattle.text.specs.Tests.{all, all-append, and-l, and-r, both, either}
+use Rattle.text.specs.Tests.{all, all-append, and-l, and-r, both, either, any}
 use Rattle.tables.specs.Tables.{cfiName}
 use Rattle.lines.specs.Lines.{Bytes, Form, register, registerPlus, cfaPlus, atCfaPlus, Rule, rule, init, later, cfa, formText}
 use Rattle.lines.specs.Lines.{ruleText, rulesText, initText, laterText, lineText, render, nameOk, registerOk, formOk, ruleOk, lineOk}
@@ -20,7 +20,7 @@ use Rattle.dwarf.specs.declared.RegisterRule.{RegisterRule}
 use Rattle.dwarf.specs.declared.CfaRule.{CfaRule}
 use Rattle.dwarf.specs.Dwarf.{twos, Row, rows, loadAddress, lastEnd, fdeOf, dwarfLayout, dwarfSkipped, dwarfReach, Seen, never, seen}
 use Rattle.dwarf.specs.Dwarf.{differs, CfaSeen, noCfa, lastCfa, cfaDiffers, dwarfJudged, nextRow, rowAt, rowsFrom, rowCount, registers}
-use Rattle.dwarf.specs.Dwarf.{member, once, rowFits, rowsFit, any, formBytes, namedBytes, ruleBytes, cfaBytes, raBytes, defaultBytes, startBytes}
+use Rattle.dwarf.specs.Dwarf.{member, once, rowFits, rowsFit, formBytes, namedBytes, ruleBytes, cfaBytes, raBytes, defaultBytes, startBytes}
 use Rattle.dwarf.specs.Dwarf.{lineBytes, rowBytes, remember, seenAfter, ranMoved, ranOf, ranRow, ranRows, nothingSeen, dwarfText, dwarfEntry}
 use Rattle.dwarf.specs.Index.{layout-rows, rowRules, free-ind, once-free, once-rest, ran-row, row-once}
 use Rattle.dwarf.specs.Sense.{orElse, ruleFor, lastRule, lastCfaRule, ruleDiffers, cfaChanges, nameForm, ruleForms, named, ruleRules, cfaPlusRules, cfaRules, raRules}

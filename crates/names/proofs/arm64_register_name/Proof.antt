@@ -9,18 +9,18 @@ use Rattle.names.proofs.arm64_register_name.Tie as tie
 letter-byte-requires : tie.Need-letter-byte-requires
 letter-byte-requires c κs = search needs
 
-decimal-digit-requires : tie.Need-decimal-digit-requires
-decimal-digit-requires c κs = search needs
+digit-of-requires : tie.Need-digit-of-requires
+digit-of-requires c κs = search needs
 
 returns : tie.Need-returns
 unfolding nameText arm64Name
-returns c = one-digit (c .before .before .before .args .register) (c .before .before .letter-byte .ensures) (c .decimal-digit .ensures) (omega arith)
+returns c = one-digit (c .before .before .before .args .register) (c .before .before .letter-byte .ensures) (c .digit-of .ensures) (omega arith)
 
-decimal-digit-requires-2 : tie.Need-decimal-digit-requires-2
-decimal-digit-requires-2 c κs = search needs
+digit-of-requires-2 : tie.Need-digit-of-requires-2
+digit-of-requires-2 c κs = search needs
 
-decimal-digit-requires-3 : tie.Need-decimal-digit-requires-3
-decimal-digit-requires-3 c κs = search needs
+digit-of-requires-3 : tie.Need-digit-of-requires-3
+digit-of-requires-3 c κs = search needs
 
 returns-2 : tie.Need-returns-2
 unfolding nameText arm64Name
@@ -28,13 +28,13 @@ returns-2 c =
     let ones = c .before .before in
     let l = ones .before .before in
     let n = l .before .args .register in
-    two-digits n (l .letter-byte .ensures) (c .decimal-digit3 .ensures) (ones .decimal-digit2 .ensures) (omega arith) (omega arith)
+    two-digits n (l .letter-byte .ensures) (c .digit-of3 .ensures) (ones .digit-of2 .ensures) (omega arith) (omega arith)
 
-decimal-digit-requires-4 : tie.Need-decimal-digit-requires-4
-decimal-digit-requires-4 c κs = search needs
+digit-of-requires-4 : tie.Need-digit-of-requires-4
+digit-of-requires-4 c κs = search needs
 
-decimal-digit-requires-5 : tie.Need-decimal-digit-requires-5
-decimal-digit-requires-5 c κs = search needs
+digit-of-requires-5 : tie.Need-digit-of-requires-5
+digit-of-requires-5 c κs = search needs
 
 returns-3 : tie.Need-returns-3
 unfolding nameText arm64Name
@@ -42,18 +42,18 @@ returns-3 c =
     let ones = c .before .before .before in
     let l = ones .before .before in
     let n = l .before .args .register in
-    three-digits n (l .letter-byte .ensures) (c .decimal-digit5 .ensures) (c .before .decimal-digit4 .ensures) (ones .decimal-digit2 .ensures) (omega arith) (omega arith)
+    three-digits n (l .letter-byte .ensures) (c .digit-of5 .ensures) (c .before .digit-of4 .ensures) (ones .digit-of2 .ensures) (omega arith) (omega arith)
 
 pub arm64-register-name-spec : {M : Type 1} → statement M
 arm64-register-name-spec =
     tie.close
     (tie.spec
     letter-byte-requires
-    decimal-digit-requires
+    digit-of-requires
     returns
-    decimal-digit-requires-2
-    decimal-digit-requires-3
+    digit-of-requires-2
+    digit-of-requires-3
     returns-2
-    decimal-digit-requires-4
-    decimal-digit-requires-5
+    digit-of-requires-4
+    digit-of-requires-5
     returns-3)

@@ -1,10 +1,6 @@
 -- `has_cfi_name`: the mark of no name is 0.
 use mathlib.Core.Path.{ap, _∙_}
-use mathlib.Core.Bool.{not}
-use mathlib.Core.List.{List}
-use Prim.Native.Nat.{ℕ}
-use lib.Dec.{eqb}
-use lib.ListN.{length}
+use Rattle.text.specs.Tests.{any}
 use Rattle.names.proofs.Marks.{mark-named}
 use borrow.Author.Needs.{needs}
 use Rattle.names.proofs.has_cfi_name.Statement.{statement}
@@ -14,7 +10,7 @@ cfi-mark-requires : tie.Need-cfi-mark-requires
 cfi-mark-requires c κs = search needs
 
 returns : tie.Need-returns
-returns c = mark-named (c .cfi-mark .result) ∙ ap (λ (n : List ℕ). not (eqb (length n) 0)) (c .cfi-mark .ensures)
+returns c = mark-named (c .cfi-mark .result) ∙ ap any (c .cfi-mark .ensures)
 
 pub has-cfi-name-spec : {M : Type 1} → statement M
 has-cfi-name-spec = tie.close (tie.spec cfi-mark-requires returns)

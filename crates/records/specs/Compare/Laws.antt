@@ -42,7 +42,8 @@ pub compares : (b₁ : List ℕ) (l₁ : ℕ) (w₁ t₁ b₂ : List ℕ) (l₂ 
 compares b₁ l₁ w₁ t₁ b₂ l₂ w₂ t₂ {r = r} p q e =
     let o₁ = outcome b₁ l₁ w₁ t₁ in
     let o₂ = outcome b₂ l₂ w₂ t₂ in
-    let a : r ≡ comparedOf (o₁ .number) (o₂ .number) (kind b₁) (kind b₂) (textOf o₁) (textOf o₂) = e ∙ rw (p .number-is, q .number-is, p .length-is, q .length-is, p .text-is, q .text-is) refl in
+    let a : r ≡ comparedOf (o₁ .number) (o₂ .number) (kind b₁) (kind b₂) (textOf o₁) (textOf o₂)
+    = e ∙ rw (p .number-is, q .number-is, p .length-is, q .length-is, p .text-is, q .text-is) refl in
     let f : o₁ .number ≡ 0 → o₂ .number ≡ 0 → kind b₁ ≡ kind b₂ → (r ≡ Same) ↔ (textOf o₁ ≡ textOf o₂)
     = λ h₁ h₂ k. rw (a, h₁, h₂) (same-texts (kind b₁) (kind b₂) (textOf o₁) (textOf o₂) k) in
     record {

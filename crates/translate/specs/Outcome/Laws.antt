@@ -79,7 +79,8 @@ module _ {b : List ℕ} {l : ℕ} {t₀ : List ℕ} {s : Last} {i : ℕ} {t : Li
   now = entryOf (kind b) l s (body b i)
 
   first : i < count b → walk (kind b) l (length t₀) s (bodiesFrom b i (count b - i)) i (g .acc)
-      ≡ onward (verdict (now .number) (length t) used (length (now .text))) i (g .acc) (walk (kind b) l (length t₀) (now .next) (bodiesFrom b (suc i) (count b - suc i)) (suc i) (g .acc ++ now .text))
+      ≡ onward (verdict (now .number) (length t) used (length (now .text))) i (g .acc)
+      (walk (kind b) l (length t₀) (now .next) (bodiesFrom b (suc i) (count b - suc i)) (suc i) (g .acc ++ now .text))
   unfolding walk bodiesFrom
   first h = let e : count b - i ≡ suc (count b - suc i) = omega arith in rw (e, long, used-is)
 

@@ -30,7 +30,9 @@ op-of-requires c κs = search needs
 
 returns : tie.Need-returns
 unfolding opAt
-returns c = rw (← c .before .before .before .before .word .ensures, ← c .before .before .before .word2 .ensures, ← c .before .before .word3 .ensures, ← c .before .word4 .ensures) (c .op-of .ensures)
+returns c =
+    let words = c .before .before in
+    rw (← words .before .before .word .ensures, ← words .before .word2 .ensures, ← words .word3 .ensures, ← c .before .word4 .ensures) (c .op-of .ensures)
 
 pub op-at-spec : {M : Type 1} → statement M
 op-at-spec =

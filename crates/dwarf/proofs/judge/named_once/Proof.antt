@@ -38,7 +38,7 @@ returns c =
     let loop = c .before .before .before .before .loop in
     let word′ = c .before .before .word in
     and-no (not (member (word (args .body .now) (loop .a)) (registers (rulesFrom (args .body .now) (loop .k - 1) (loop .a + 4))))) _
-    (rw (← word′ .ensures) (ap not (sym (c .before .names-register .ensures) ∙ c .if1 .taken)))
+    (rw (← word′ .ensures, ← c .before .names-register .ensures) (ap not (c .if1 .taken)))
     ∙ sym (once-turn (args .body .now) (loop .k) (loop .a) (search needs)) ∙ loop .inv .2
 
 loop-less : tie.Need-loop-less Inv-loop μ-loop
@@ -53,7 +53,7 @@ loop-again c =
       omega arith,
       and-yes (not (member (word (args .body .now) (loop .a))
           (registers (rulesFrom (args .body .now) (loop .k - 1) (loop .a + 4))))) _
-          (rw (← word′ .ensures) (ap not (sym (c .before .names-register .ensures) ∙ c .if1 .left)))
+          (rw (← word′ .ensures, ← c .before .names-register .ensures) (ap not (c .if1 .left)))
           ∙ sym (once-turn (args .body .now) (loop .k) (loop .a) (search needs)) ∙ loop .inv .2,
     )
 

@@ -1,5 +1,6 @@
 -- `cfa_written`: something is written where a rule is there.
-use Rattle.dwarf.specs.Dwarf.{any, cfaBytes}
+use Rattle.text.specs.Tests.{any}
+use Rattle.dwarf.specs.Dwarf.{cfaBytes}
 use Rattle.dwarf.proofs.Forms.{some-any}
 use borrow.Author.Needs.{needs}
 use Rattle.dwarf.proofs.write.cfa_written.Statement.{statement}

@@ -4,11 +4,11 @@ use borrow.Author.Needs.{needs}
 use Rattle.dwarf.proofs.write.form_written.Statement.{statement}
 use Rattle.dwarf.proofs.write.form_written.Tie as tie
 
-has-name-requires : tie.Need-has-name-requires
-has-name-requires c κs = search needs
+has-cfi-name-requires : tie.Need-has-cfi-name-requires
+has-cfi-name-requires c κs = search needs
 
 returns : tie.Need-returns
-returns c = form-same (c .before .before .args .family) (c .before .before .args .rule) (c .before .if1 .taken) (c .has-name .ensures)
+returns c = form-same (c .before .before .args .family) (c .before .before .args .rule) (c .before .if1 .taken) (c .has-cfi-name .ensures)
 
 value-named-requires : tie.Need-value-named-requires
 value-named-requires c κs = search needs
@@ -21,4 +21,4 @@ returns-3 c = form-plain (c .before .before .args .family) (c .before .before .a
 
 pub form-written-spec : {M : Type 1} → statement M
 form-written-spec =
-    tie.close (tie.spec has-name-requires returns value-named-requires returns-2 returns-3)
+    tie.close (tie.spec has-cfi-name-requires returns value-named-requires returns-2 returns-3)

@@ -8,18 +8,19 @@ use mir.Syntax.{w64}
 use mir.Val.{SFits}
 use mir.Facts.{toZ-ofZ}
 use Rattle.text.specs.Text.{ascii}
+use Rattle.text.specs.Tests.{any}
 use Rattle.digits.specs.Digits.{signed}
 use Rattle.tables.specs.Tables.{cfiName}
 use Rattle.lines.specs.Lines.{formText, ruleText}
 use Rattle.rules.specs.Rules.{ruleOf, regName, formOf}
-use Rattle.dwarf.specs.Dwarf.{any, cfaBytes}
+use Rattle.dwarf.specs.Dwarf.{cfaBytes}
 use Rattle.dwarf.specs.Cache.{formatted}
 use borrow.Author.Needs.{needs}
 use Rattle.dwarf.proofs.write.format_cfa.Statement.{statement}
 use Rattle.dwarf.proofs.write.format_cfa.Tie as tie
 
-has-name-requires : tie.Need-has-name-requires
-has-name-requires c κs = search needs
+has-cfi-name-requires : tie.Need-has-cfi-name-requires
+has-cfi-name-requires c κs = search needs
 
 both-requires : tie.Need-both-requires
 both-requires c κs = search needs
@@ -34,7 +35,7 @@ returns : tie.Need-returns
 unfolding cfaBytes formatted ruleText formText ruleOf regName formOf
 returns c =
     let n = c .before .signed-of in
-    let named = c .before .before .before .before .has-name in
+    let named = c .before .before .before .before .has-cfi-name in
     let a = c .before .before .before .before .before .args in
     let f : SFits w64 (n .result) = search needs in
     rw (c .before .before .both .ensures, named .ensures, c .cfa-name .ensures)
@@ -44,4 +45,4 @@ returns c =
 pub format-cfa-spec : {M : Type 1} → statement M
 format-cfa-spec =
     tie.close
-    (tie.spec has-name-requires both-requires signed-of-requires cfa-name-requires returns)
+    (tie.spec has-cfi-name-requires both-requires signed-of-requires cfa-name-requires returns)

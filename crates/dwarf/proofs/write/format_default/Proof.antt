@@ -10,8 +10,8 @@ use Rattle.dwarf.proofs.write.format_default.Tie as tie
 both-requires : tie.Need-both-requires
 both-requires c κs = search needs
 
-has-name-requires : tie.Need-has-name-requires
-has-name-requires c κs = search needs
+has-cfi-name-requires : tie.Need-has-cfi-name-requires
+has-cfi-name-requires c κs = search needs
 
 both-requires-2 : tie.Need-both-requires-2
 both-requires-2 c κs = search needs
@@ -21,8 +21,8 @@ ra-name-requires c κs = search needs
 
 returns : tie.Need-returns
 unfolding raBytes formatted ruleText formText ruleOf regName formOf
-returns c = rw (c .before .both2 .ensures, c .before .before .before .both .ensures, c .before .before .has-name .ensures, c .ra-name .ensures)
+returns c = rw (c .before .both2 .ensures, c .before .before .before .both .ensures, c .before .before .has-cfi-name .ensures, c .ra-name .ensures)
 
 pub format-default-spec : {M : Type 1} → statement M
 format-default-spec =
-    tie.close (tie.spec both-requires has-name-requires both-requires-2 ra-name-requires returns)
+    tie.close (tie.spec both-requires has-cfi-name-requires both-requires-2 ra-name-requires returns)

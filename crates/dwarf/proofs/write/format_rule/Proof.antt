@@ -27,8 +27,8 @@ returns c =
 cfi-register-name-requires : tie.Need-cfi-register-name-requires
 cfi-register-name-requires c κs = search needs
 
-has-name-requires : tie.Need-has-name-requires
-has-name-requires c κs = search needs
+has-cfi-name-requires : tie.Need-has-cfi-name-requires
+has-cfi-name-requires c κs = search needs
 
 both-requires : tie.Need-both-requires
 both-requires c κs = search needs
@@ -40,8 +40,8 @@ returns-2 c =
     let f = c .before .before .before .before .before .rule-form in
     let args = c .before .before .before .before .before .before .args in
     rw (ne-eqb (args .rule .register) (args .ra) (c .before .before .before .if1 .left), c .both .ensures, name .ensures)
-    (named-of (f .result .some) (c .before .has-name .result) (cfiName (args .family) (args .rule .register)) (formText (formOf (f .result .form)))
-    (formBytes (args .family) (args .rule)) (f .ensures .some-is) (f .ensures .bytes-are) (c .before .has-name .ensures))
+    (named-of (f .result .some) (c .before .has-cfi-name .result) (cfiName (args .family) (args .rule .register)) (formText (formOf (f .result .form)))
+    (formBytes (args .family) (args .rule)) (f .ensures .some-is) (f .ensures .bytes-are) (c .before .has-cfi-name .ensures))
 
 pub format-rule-spec : {M : Type 1} → statement M
 format-rule-spec =
@@ -51,6 +51,6 @@ format-rule-spec =
     ra-name-requires
     returns
     cfi-register-name-requires
-    has-name-requires
+    has-cfi-name-requires
     both-requires
     returns-2)

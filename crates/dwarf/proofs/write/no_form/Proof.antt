@@ -1,5 +1,5 @@
 -- `no_form`: by computation.
-use Rattle.dwarf.specs.Dwarf.{any}
+use Rattle.text.specs.Tests.{any}
 use Rattle.dwarf.specs.Cache.{formed}
 use mathlib.Core.Path.{refl}
 use Rattle.dwarf.proofs.write.no_form.Statement.{statement}

@@ -6,8 +6,8 @@ use mathlib.Core.List.{List, []}
 use Prim.Native.Nat.{ℕ}
 use Rattle.text.specs.Text.{Put}
 use Rattle.text.specs.Text.Laws.{put-length}
-use Rattle.dwarf.specs.Dwarf.{wide, rowAt, lineBytes, ranParts}
-use Rattle.dwarf.specs.Cache.{lookup}
+use Rattle.dwarf.specs.Dwarf.{wide, rowAt, lineBytes}
+use Rattle.dwarf.specs.Cache.{lookup, ranParts}
 use Rattle.dwarf.proofs.Forms.{put-taken, put-left}
 use Rattle.dwarf.proofs.Rows.{row-done, row-after}
 use native.Mathlib.Omega.{arith}

@@ -8,15 +8,15 @@ use borrow.Author.Needs.{needs}
 use Rattle.dwarf.proofs.write.register_form.Statement.{statement}
 use Rattle.dwarf.proofs.write.register_form.Tie as tie
 
-has-name-requires : tie.Need-has-name-requires
-has-name-requires c κs = search needs
+has-cfi-name-requires : tie.Need-has-cfi-name-requires
+has-cfi-name-requires c κs = search needs
 
 returns : tie.Need-returns
 unfolding formed formText formOf regName
 returns c = record {
-  some-is = c .has-name .ensures;
-  bytes-are = name-form (cfiName (c .before .args .family) (c .before .args .register)) _ (c .has-name .ensures);
+  some-is = c .has-cfi-name .ensures;
+  bytes-are = name-form (cfiName (c .before .args .family) (c .before .args .register)) _ (c .has-cfi-name .ensures);
 }
 
 pub register-form-spec : {M : Type 1} → statement M
-register-form-spec = tie.close (tie.spec has-name-requires returns)
+register-form-spec = tie.close (tie.spec has-cfi-name-requires returns)

@@ -7,10 +7,11 @@ use mir.Val.{SFits}
 use mir.Facts.{toZ-ofZ}
 use borrow.Author.Tests.{eq-eqb, ne-eqb}
 use Rattle.text.specs.Text.{ascii}
+use Rattle.text.specs.Tests.{any}
 use Rattle.digits.specs.Digits.{signed}
 use Rattle.lines.specs.Lines.{formText}
 use Rattle.rules.specs.Rules.{formOf}
-use Rattle.dwarf.specs.Dwarf.{any, formBytes}
+use Rattle.dwarf.specs.Dwarf.{formBytes}
 use Rattle.dwarf.specs.Cache.{formed}
 use borrow.Author.Needs.{needs}
 use Rattle.dwarf.proofs.write.rule_form.Statement.{statement}

@@ -2,7 +2,8 @@
 use mathlib.Core.Path.{sym, ap, _∙_}
 use mathlib.Core.Bool.{Bool, _&&_}
 use borrow.Author.Tests.{not-true, not-false}
-use Rattle.dwarf.specs.Dwarf.{any, formBytes, ruleBytes}
+use Rattle.text.specs.Tests.{any}
+use Rattle.dwarf.specs.Dwarf.{formBytes, ruleBytes}
 use Rattle.dwarf.proofs.Forms.{any-named}
 use borrow.Author.Needs.{needs}
 use Rattle.dwarf.proofs.write.rule_written.Statement.{statement}

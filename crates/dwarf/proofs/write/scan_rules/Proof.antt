@@ -7,7 +7,8 @@ use lib.ListN.{length, set, length-set}
 use lib.Dec.{eqb}
 use mir.Syntax.{w64}
 use mir.Val.{Fits}
-use Rattle.dwarf.specs.Dwarf.{any, ruleBytes}
+use Rattle.text.specs.Tests.{any}
+use Rattle.dwarf.specs.Dwarf.{ruleBytes}
 use Rattle.dwarf.proofs.Store.{stored-counts, stored-sees, change-is}
 use Rattle.dwarf.proofs.Loops.{ScanLeft, scan-all, scan-turn, scan-done, rules-room, rules-place}
 use borrow.Author.Needs.{needs}
