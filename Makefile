@@ -2,6 +2,7 @@
 RUST_SRC ?= ../shared/docs/src
 export RUST_SRC
 PREFIX ?= /usr/local
+ARCHIVE = target/staticlib/libstacklines.a
 
 .PHONY: help run compare test lib install book fuzz faults bench bench-docs profile prove must-fail fmt clean
 
@@ -9,7 +10,7 @@ help:
 	@echo 'make run BOOK=file        print the STACK lines of a book, as specimens/first.book'
 	@echo 'make compare A=file B=file   say whether two books have the same records'
 	@echo 'make test                 everything: the proofs, the must-fail edits, the programs, the tests beside them'
-	@echo 'make lib [PREFIX=dir]     the archive to link from C, target/staticlib/libtranslate.a, its header is bindings/c/stacklines.h; with PREFIX also installed'
+	@echo 'make lib [PREFIX=dir]     the archive to link from C, target/staticlib/libstacklines.a, its header is bindings/c/stacklines.h; with PREFIX also installed'
 	@echo 'make install PREFIX=dir   header, archive and pkg-config file to dir/include and dir/lib, once make lib has made the archive'
 	@echo 'make book                 the tool that makes books from readable text and shows them, target/book; tools/book/README.md'
 	@echo 'make fuzz [SEED=] [N=]    the archive against the model and the Rust on N books, from a fresh seed unless one is given'
@@ -42,16 +43,17 @@ test:
 	@sh tests/run
 
 lib:
-	@mkdir -p target
-	@rt staticlib translate >target/lib.log 2>&1 || { cat target/lib.log >&2; exit 1; }
-	@echo target/staticlib/libtranslate.a
+	@sh tools/prove exports
+	@cmp -s target/stamp/exports target/staticlib/stamp || { rt staticlib exports >target/lib.log 2>&1 || { cat target/lib.log >&2; exit 1; }; \
+	    mv target/staticlib/libexports.a $(ARCHIVE) && cp target/stamp/exports target/staticlib/stamp; }
 	@$(if $(findstring command line,$(origin PREFIX)),$(MAKE) -s install)
+	@echo $(ARCHIVE)
 
 install:
-	@test -f target/staticlib/libtranslate.a || { echo 'make lib first' >&2; exit 2; }
+	@test -f $(ARCHIVE) || { echo 'make lib first' >&2; exit 2; }
 	@mkdir -p '$(DESTDIR)$(PREFIX)/include' '$(DESTDIR)$(PREFIX)/lib/pkgconfig'
 	@cp bindings/c/stacklines.h '$(DESTDIR)$(PREFIX)/include/'
-	@cp target/staticlib/libtranslate.a '$(DESTDIR)$(PREFIX)/lib/'
+	@cp $(ARCHIVE) '$(DESTDIR)$(PREFIX)/lib/'
 	@sed 's|@PREFIX@|$(PREFIX)|' bindings/c/stacklines.pc.in >'$(DESTDIR)$(PREFIX)/lib/pkgconfig/stacklines.pc'
 
 book:

@@ -23,8 +23,8 @@ need_rust() {
 
 need_port() {
     LIBDIR=${LIBDIR:-$oracle/../target/staticlib}
-    if [ ! -f "$LIBDIR/libtranslate.a" ]; then
-        echo "skipped: no libtranslate.a"
+    if [ ! -f "$LIBDIR/libstacklines.a" ]; then
+        echo "skipped: no libstacklines.a"
         exit 0
     fi
     LIBDIR=$(cd "$LIBDIR" && pwd)

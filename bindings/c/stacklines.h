@@ -1,4 +1,4 @@
-/* STACK lines from decoded unwind data, for C. Link libtranslate.a (`make lib` says where it is); it needs no other library. */
+/* STACK lines from decoded unwind data, for C. Link libstacklines.a (`make lib` says where it is); it needs no other library. */
 #ifndef STACKLINES_H
 #define STACKLINES_H
 

@@ -1,5 +1,5 @@
-//! Links the port's archive: `libtranslate.a` in LIBDIR, by default where `rt staticlib translate` writes it. Where LIBDIR holds a
-//! `libtranslate.so`, that is taken, and looked for again at each run.
+//! Links the port's archive: `libstacklines.a` in LIBDIR, by default where `make lib` writes it. Where LIBDIR holds a
+//! `libstacklines.so`, that is taken, and looked for again at each run.
 
 use std::env;
 use std::path::PathBuf;
@@ -9,8 +9,8 @@ fn main() {
     let dir = env::var("LIBDIR").map_or_else(|_| root.join("target/staticlib"), PathBuf::from);
     let dir = dir.canonicalize().expect("no folder LIBDIR");
     println!("cargo:rustc-link-search=native={}", dir.display());
-    let kind = if dir.join("libtranslate.so").exists() { "dylib" } else { "static" };
-    println!("cargo:rustc-link-lib={kind}=translate");
+    let kind = if dir.join("libstacklines.so").exists() { "dylib" } else { "static" };
+    println!("cargo:rustc-link-lib={kind}=stacklines");
     println!("cargo:rerun-if-env-changed=LIBDIR");
-    println!("cargo:rerun-if-changed={}", dir.join("libtranslate.a").display());
+    println!("cargo:rerun-if-changed={}", dir.join("libstacklines.a").display());
 }

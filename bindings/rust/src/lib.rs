@@ -34,7 +34,7 @@
 //! assert_eq!(refused.to_string(), "refused 4 at entry 1: the entry's body breaks its layout or a range");
 //! ```
 //!
-//! The archive `libtranslate.a` is looked for in the folder that the environment variable `STACKLINES_LIB` names when this
+//! The archive `libstacklines.a` is looked for in the folder that the environment variable `STACKLINES_LIB` names when this
 //! crate is built, by default where `make lib` writes it in the repository.
 
 #![deny(missing_docs)]

@@ -3,7 +3,7 @@ use mathlib.Core.Path.{_≡_}
 use mathlib.Core.List.{List, [], _∷_, _++_}
 use mathlib.Core.Bool.{cond}
 use Prim.Native.Nat.{ℕ, zero, suc, _-_, _≤_}
-use lib.ListN.{length, drop, set, replicate}
+use lib.ListN.{length, drop, replicate}
 use lib.Dec.{ltb, eqb}
 use Rattle.entry.specs.declared.Last.{Last}
 use Rattle.entry.specs.Entry.{Entry, noLast}
@@ -104,14 +104,3 @@ pub record Called (o : Outcome) (w′ t′ : List ℕ) (r : Returned) : Type 0 w
   pub work-is : w′ ≡ o .work
   pub text-is : t′ ≡ o .text
   pub fits : r .length ≤ length t′
-
--- the call for C: the entries and the length are stored where there is room for two numbers
-abbrev pub counted : List ℕ → ℕ → ℕ → List ℕ
-counted c n m = cond (ltb (length c) 2) c (set (set c 0 n) 1 m)
-
--- the same with the counts that C gets
-pub record Exported (o : Outcome) (c w′ t′ c′ : List ℕ) (number : ℕ) : Type 0 where
-  pub number-is : number ≡ o .number
-  pub work-is : w′ ≡ o .work
-  pub text-is : t′ ≡ o .text
-  pub counts-is : c′ ≡ counted c (o .entries) (o .length)

@@ -16,7 +16,7 @@ ghost use lib.ListN.{length, take, replicate};
 ghost use Rattle.text.specs.Text.{Put};
 ghost use Rattle.entry.specs.Entry.{Processed};
 ghost use Rattle.book.specs.Book.{contentsOk};
-ghost use Rattle.translate.specs.Outcome.{AREA, entryOf, walkOf, outcome, Called, Exported};
+ghost use Rattle.translate.specs.Outcome.{AREA, entryOf, walkOf, outcome, Called};
 ghost use Rattle.translate.specs.Outcome.Laws.{Stepped, Ended};
 
 // The bytes of the work area that are used, and left zero.
@@ -169,24 +169,4 @@ pub fn translate(book: &[u32], limit: u32, work: &mut [u8], text: &mut [u8]) -> 
         entries: 0,
         length: 0,
     }
-}
-
-// The call for C: the number is returned; entries and length are stored where `counts` has room for two.
-#[no_mangle]
-pub extern "C" fn stacklines_translate(
-    book: &[u32],
-    limit: u32,
-    work: &mut [u8],
-    text: &mut [u8],
-    counts: &mut [u64],
-) -> u32
-    ensures { λ r. ⌜ Exported (outcome (now (book .entry)) limit (now (work .entry)) (now (text .entry))) (now (counts .entry)) (now (work .exit)) (now (text .exit)) (now (counts .exit)) r ⌝ }
-{
-    let r = translate(book, limit, work, text);
-    if counts.len() < 2 {
-        return r.number;
-    }
-    counts[0] = r.entries as u64;
-    counts[1] = r.length as u64;
-    r.number
 }

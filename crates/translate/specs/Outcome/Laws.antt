@@ -6,7 +6,7 @@ use Prim.Native.Nat.{ℕ, zero, suc, _+_, _-_, _≤_, _<_}
 use native.Mathlib.Omega.{arith}
 use native.Mathlib.Numerals.{add-one}
 use native.Mathlib.Nat.{sub-zero}
-use lib.ListN.{length, take, drop, set, replicate}
+use lib.ListN.{length, take, drop, replicate}
 use lib.Seq.{sets, length-take-le}
 use borrow.Author.Tests.{lt-ltb, le-ltb}
 use Rattle.text.specs.Text.{Put, MAX}
@@ -16,7 +16,7 @@ use Rattle.entry.specs.declared.Wrote.{Wrote}
 use Rattle.entry.specs.Entry.{Entry, noLast, Processed}
 use Rattle.book.specs.Book.{kind, count, body, bodiesFrom, bodies, contentsOk}
 use Rattle.translate.specs.declared.Returned.{Returned}
-use Rattle.translate.specs.Outcome.{entryOf, AREA, LONGEST, MOST-LIMIT, verdict, Walked, onward, walk, walkOf, Outcome, refused, cleared, outcome, Called, Exported}
+use Rattle.translate.specs.Outcome.{entryOf, AREA, LONGEST, MOST-LIMIT, verdict, Walked, onward, walk, walkOf, Outcome, refused, cleared, outcome, Called}
 
 -- ---- a step, and the loop
 
@@ -143,20 +143,6 @@ module _ (b : List ℕ) (l : ℕ) (w t : List ℕ) where
       text-is = p .text-is;
       fits = omega (arith, p .fits);
     })
-
--- ---- the call for C
-
-module _ {o : Outcome} {w′ t′ : List ℕ} {r : Returned} (p : Called o w′ t′ r) (c : List ℕ) where
-  pub exported-none : length c < 2 → Exported o c w′ t′ c (r .number)
-  exported-none h = record { number-is = p .number-is; work-is = p .work-is; text-is = p .text-is; counts-is = rw (lt-ltb (length c) 2 h) refl }
-
-  pub exported : 2 ≤ length c → Exported o c w′ t′ (set (set c 0 (r .entries)) 1 (r .length)) (r .number)
-  exported h = record {
-    number-is = p .number-is;
-    work-is = p .work-is;
-    text-is = p .text-is;
-    counts-is = rw (le-ltb (length c) 2 h, p .entries-is, p .length-is) refl;
-  }
 
 -- ---- one entry, from the work area into the text
 

@@ -1,9 +1,9 @@
 -- `stacklines_translate`: the call's contract; the counts are stored where there is room (`exported`).
 use Rattle.translate.specs.Outcome.{outcome}
-use Rattle.translate.specs.Outcome.Laws.{exported, exported-none}
+use Rattle.exports.specs.Exports.Laws.{exported, exported-none}
 use borrow.Author.Needs.{needs}
-use Rattle.translate.proofs.stacklines_translate.Statement.{statement}
-use Rattle.translate.proofs.stacklines_translate.Tie as tie
+use Rattle.exports.proofs.stacklines_translate.Statement.{statement}
+use Rattle.exports.proofs.stacklines_translate.Tie as tie
 
 translate-requires : tie.Need-translate-requires
 translate-requires c κs = search needs
