@@ -2,6 +2,7 @@
 RUST_SRC ?= ../shared/docs/src
 export RUST_SRC
 PREFIX ?= /usr/local
+VERSION = $(shell sed -n 's/^.define STACKLINES_VERSION "\(.*\)"/\1/p' bindings/c/stacklines.h)
 ARCHIVE = target/staticlib/libstacklines.a
 
 .PHONY: help run compare test lib install book fuzz faults bench bench-docs profile prove must-fail fmt clean
@@ -10,7 +11,7 @@ help:
 	@echo 'make run BOOK=file        print the STACK lines of a book, as specimens/first.book'
 	@echo 'make compare A=file B=file   say whether two books have the same records'
 	@echo 'make test                 everything: the proofs, the must-fail edits, the programs, the tests beside them'
-	@echo 'make lib [PREFIX=dir]     the archive to link from C, target/staticlib/libstacklines.a, its header is bindings/c/stacklines.h; with PREFIX also installed'
+	@echo 'make lib [PREFIX=dir]     the archive to link from C, $(ARCHIVE), its header is bindings/c/stacklines.h; with PREFIX also installed'
 	@echo 'make install PREFIX=dir   header, archive and pkg-config file to dir/include and dir/lib, once make lib has made the archive'
 	@echo 'make book                 the tool that makes books from readable text and shows them, target/book; tools/book/README.md'
 	@echo 'make fuzz [SEED=] [N=]    the archive against the model and the Rust on N books, from a fresh seed unless one is given'
@@ -26,11 +27,7 @@ help:
 	@echo 'RUST_SRC is the folder of the Rust source, $(RUST_SRC); without it its tests are skipped.'
 
 run:
-	@test -f '$(BOOK)' || { echo 'make run BOOK=file' >&2; exit 2; }
-	@mkdir -p target
-	@test -f target/bin/stacklines || echo 'proving stacklines first; that takes minutes' >&2
-	@rt check stacklines >target/run.log 2>&1 || { cat target/run.log >&2; exit 1; }
-	@target/bin/stacklines <'$(BOOK)'
+	@sh tools/run '$(BOOK)'
 
 compare:
 	@test -f '$(A)' && test -f '$(B)' || { echo 'make compare A=file B=file' >&2; exit 2; }
@@ -44,8 +41,7 @@ test:
 
 lib:
 	@sh tools/prove exports
-	@cmp -s target/stamp/exports target/staticlib/stamp || { rt staticlib exports >target/lib.log 2>&1 || { cat target/lib.log >&2; exit 1; }; \
-	    mv target/staticlib/libexports.a $(ARCHIVE) && cp target/stamp/exports target/staticlib/stamp; }
+	@cmp -s target/stamp/exports target/staticlib/stamp || sh tools/archive $(ARCHIVE)
 	@$(if $(findstring command line,$(origin PREFIX)),$(MAKE) -s install)
 	@echo $(ARCHIVE)
 
@@ -54,7 +50,7 @@ install:
 	@mkdir -p '$(DESTDIR)$(PREFIX)/include' '$(DESTDIR)$(PREFIX)/lib/pkgconfig'
 	@cp bindings/c/stacklines.h '$(DESTDIR)$(PREFIX)/include/'
 	@cp $(ARCHIVE) '$(DESTDIR)$(PREFIX)/lib/'
-	@sed 's|@PREFIX@|$(PREFIX)|' bindings/c/stacklines.pc.in >'$(DESTDIR)$(PREFIX)/lib/pkgconfig/stacklines.pc'
+	@sed 's|@PREFIX@|$(PREFIX)|; s|@VERSION@|$(VERSION)|' bindings/c/stacklines.pc.in >'$(DESTDIR)$(PREFIX)/lib/pkgconfig/stacklines.pc'
 
 book:
 	@mkdir -p target

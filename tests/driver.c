@@ -56,7 +56,7 @@ static void end(struct book *b, uint32_t i, size_t from)
     b->words[3 + 2 * i] = (uint32_t)(b->len - from);
 }
 
-/* Push $rbx, allocate 32, from 1000h to 1040h: document 01's first specimen. */
+/* Push $rbx, allocate 32, from 1000h to 1040h: specimens/first.book. */
 #define FIRST 13, 4096, 4160, 20480, 1, 0, 0, 2, 2, 0, 32, 1, 3, 0
 #define FIRST_LINE "STACK CFI INIT 1000 40 .cfa: $rsp 48 + $rbx: .cfa 16 - ^ .ra: .cfa 8 - ^\n"
 

@@ -1,4 +1,7 @@
-/* STACK lines from decoded unwind data, for C. Link libstacklines.a (`make lib` says where it is); it needs no other library. */
+/*
+ * STACK lines from decoded unwind data, for C on x86-64 Linux. Link libstacklines.a; `make lib` prints where it is. Of other libraries it
+ * needs memcpy and memset alone; it takes no heap and makes no system call. docs/BOOK.md of the repository says what a book is.
+ */
 #ifndef STACKLINES_H
 #define STACKLINES_H
 
@@ -9,8 +12,17 @@
 extern "C" {
 #endif
 
+/* The version of this header and of the archive that it belongs to. */
+#define STACKLINES_VERSION_MAJOR 0
+#define STACKLINES_VERSION_MINOR 1
+#define STACKLINES_VERSION_PATCH 0
+#define STACKLINES_VERSION "0.1.0"
+
 /* The bytes that the work area needs. */
 #define STACKLINES_WORK 8192
+
+/* A text buffer of so many bytes holds the text of any book: 16,384 words, and less than 64 bytes for each. */
+#define STACKLINES_LARGEST_TEXT 1048576
 
 /* The highest chain limit: no limit. */
 #define STACKLINES_NO_LIMIT 32

@@ -2,8 +2,8 @@
 
 use crate::Text;
 
-/// The bytes of work area that the call needs, and the most bytes of an entry's text.
-pub(crate) const WORK: usize = 8192;
+/// The bytes of work area that the call needs.
+const WORK: usize = 8192;
 
 extern "C" {
     fn stacklines_translate(

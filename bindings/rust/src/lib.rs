@@ -1,6 +1,6 @@
 //! STACK lines of a Breakpad symbol file from decoded unwind data.
 //!
-//! This is the Rust side of a static library whose every outcome is proved; document 01 of its repository says what each
+//! This is the Rust side of a static library whose every outcome is proved; docs/BOOK.md of its repository says what each
 //! is. The data comes as a book of words, which [`book`] makes from plain values:
 //!
 //! ```
@@ -53,19 +53,19 @@ pub use text::Text;
 /// The highest chain limit: no limit.
 pub const NO_LIMIT: u32 = 32;
 
-/// The most bytes that the text of a book can have: 1,024 entries of 8,192 bytes.
-pub const MOST_TEXT: usize = book::MOST_ENTRIES * call::WORK;
+/// A text has less bytes than this for each word of its book.
+const MOST_A_WORD: usize = 64;
+
+/// So many bytes hold the text of any book: `STACKLINES_LARGEST_TEXT` of the header.
+pub const MOST_TEXT: usize = book::MOST_WORDS * MOST_A_WORD;
 
 /// The least bytes of the first buffer for the text, and its bytes for each word of the book. Few books need more.
 const FIRST_ROOM: usize = 1024;
 const BYTES_A_WORD: usize = 16;
 
-/// How much larger the next buffer is than one that was too short.
-const GROWTH: usize = 4;
-
 /// Translates a book. `limit` is the chain limit of x64 entries, 0 to [`NO_LIMIT`].
 ///
-/// The text may have up to [`MOST_TEXT`] bytes, 8 MiB, so that [`Refusal::Room`] is never met. [`Translator`] sets a lower
+/// The text may have up to [`MOST_TEXT`] bytes, 1 MiB, so that [`Refusal::Room`] is never met. [`Translator`] sets a lower
 /// bound.
 pub fn translate(book: &[u32], limit: u32) -> Result<Text, Refused> {
     Translator::new().limit(limit).translate(book)
@@ -111,19 +111,18 @@ impl Translator {
 
     /// Translates a book.
     ///
-    /// The first buffer for the text is sized by the book. One that is too short is replaced by one four times as long, up
-    /// to the bound: there are at most eight calls, mostly one, and all buffers together have less than two and a half
-    /// times the bytes of the last. [`Refusal::Room`] comes only from the bound.
+    /// The first buffer for the text is sized by the book. One that is too short is replaced by one that holds any text of so
+    /// many words, up to the bound: there are at most two calls, mostly one. [`Refusal::Room`] comes only from the bound.
     pub fn translate(&self, book: &[u32]) -> Result<Text, Refused> {
         let most = self.most_bytes.min(MOST_TEXT);
-        let mut room = book.len().saturating_mul(BYTES_A_WORD).max(FIRST_ROOM).min(most);
-        loop {
-            let called = call::call(book, self.limit, room);
-            match Refusal::from_number(called.number) {
-                None => return Ok(called.done()),
-                Some(Refusal::Room) if room < most => room = room.saturating_mul(GROWTH).min(most),
-                Some(refusal) => return Err(Refused::new(refusal, called.done())),
-            }
+        let rooms = [BYTES_A_WORD, MOST_A_WORD].map(|each| book.len().saturating_mul(each).max(FIRST_ROOM).min(most));
+        let mut called = call::call(book, self.limit, rooms[0]);
+        if Refusal::from_number(called.number) == Some(Refusal::Room) && rooms[0] < rooms[1] {
+            called = call::call(book, self.limit, rooms[1]);
+        }
+        match Refusal::from_number(called.number) {
+            None => Ok(called.done()),
+            Some(refusal) => Err(Refused::new(refusal, called.done())),
         }
     }
 }

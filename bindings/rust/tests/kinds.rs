@@ -1,4 +1,4 @@
-//! Books of every kind, with the lines that document 01's specimens have.
+//! Books of every kind, with their lines.
 
 mod common;
 

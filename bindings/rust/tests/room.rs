@@ -4,6 +4,7 @@ mod common;
 
 use common::{info, x64};
 use stacklines::book::arm64::{Arm64, Operation as Code, Slot};
+use stacklines::book::pdb::{FrameType, Pdb, Range};
 use stacklines::book::x64::X64;
 use stacklines::book::{Book, MOST_ENTRIES};
 use stacklines::{translate, Refusal, Text, Translator, MOST_TEXT, NO_LIMIT};
@@ -81,4 +82,56 @@ fn most_entries() {
     let text = translate(&x64(vec![skipped; MOST_ENTRIES]), NO_LIMIT).unwrap();
     assert_eq!((text.entries(), text.is_empty()), (MOST_ENTRIES, true));
     assert_eq!(translate(&[1, 0], NO_LIMIT).unwrap(), Text::default());
+}
+
+/// The book of the most entries that it holds.
+fn full(book: impl Fn(usize) -> Book) -> Vec<u32> {
+    (1..).map_while(|count| book(count).words().ok()).last().expect("a book of one entry")
+}
+
+/// Lines as long as ARM64 has them, in entries of close to 8,192 bytes.
+fn long_lines() -> Arm64 {
+    let last = [Code::PairPre(Slot::x(29, 1_000_000_000))];
+    let operations = vec![Code::PairPre(Slot::x(29, 8)); 63].into_iter().chain(last).collect();
+    Arm64 { address: 0xf000_0000, size: u32::MAX, operations }
+}
+
+/// A program that stands in each of 32 lines. Entries with one code start behind each other would be repeats.
+fn shared_program(code_start: u32) -> Pdb {
+    let ranges = |from: u32| (0..16).map(|i| Range { start: from + 0x100_0000 * i, end: u32::MAX }).collect();
+    Pdb {
+        frame_type: FrameType::FrameData,
+        code_start,
+        params_size: u32::MAX,
+        saved_registers_size: u16::MAX,
+        locals_size: u32::MAX,
+        max_stack_size: Some(u32::MAX),
+        string_table: true,
+        program: Some("^".repeat(181)),
+        prolog_ranges: ranges(0x1000_0000),
+        code_ranges: ranges(0x2000_0000),
+        ..Pdb::default()
+    }
+}
+
+/// The longest texts known.
+#[test]
+fn longest_texts() {
+    let arm64 = full(|count| Book::Arm64(vec![long_lines(); count]));
+    let pdb = full(|count| Book::Pdb((0..count).map(|i| shared_program(i as u32)).collect()));
+    for words in [arm64, pdb] {
+        let length = translate(&words, NO_LIMIT).unwrap().as_str().len();
+        assert!(500_000 < length && length < 32 * words.len(), "{length} bytes of {} words", words.len());
+        assert!(length < MOST_TEXT);
+    }
+}
+
+#[test]
+fn header_has_the_same_numbers() {
+    let header = include_str!("../../c/stacklines.h");
+    let defined =
+        |name: &str| header.lines().find_map(|line| line.strip_prefix(&format!("#define STACKLINES_{name} ")));
+    assert_eq!(defined("LARGEST_TEXT"), Some(MOST_TEXT.to_string().as_str()));
+    assert_eq!(defined("NO_LIMIT"), Some(NO_LIMIT.to_string().as_str()));
+    assert_eq!(defined("VERSION"), Some(format!("{:?}", env!("CARGO_PKG_VERSION")).as_str()));
 }

@@ -4,7 +4,7 @@
 use stacklines::book::x64::{Info, Operation, Register, X64};
 use stacklines::book::Book;
 
-/// The line of document 01's first specimen.
+/// The line of `specimens/first.book`.
 pub const FIRST_LINE: &str = "STACK CFI INIT 1000 40 .cfa: $rsp 48 + $rbx: .cfa 16 - ^ .ra: .cfa 8 - ^\n";
 
 /// A function from 1000h to 1040h with these infos.
@@ -17,7 +17,7 @@ pub fn info(operations: Vec<Operation>) -> Info {
     Info { operations, ..Info::default() }
 }
 
-/// Push $rbx, allocate 32: document 01's first specimen.
+/// Push $rbx, allocate 32: the entry of `specimens/first.book`.
 pub fn first() -> X64 {
     function(vec![info(vec![Operation::Allocate(32), Operation::Push(Register::Rbx)])])
 }
