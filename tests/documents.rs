@@ -4,6 +4,7 @@
 //!
 //! Run from the repository's root. The last line is 'N passed, M failed'.
 
+mod book;
 mod reach;
 mod tally;
 
@@ -235,14 +236,19 @@ fn lengths(t: &mut Tally) {
     }
 }
 
-/// Every link to a file of the repository leads to one.
+/// The place that a link to a heading names: small letters, no signs, `-` for a space.
+fn slug(heading: &str) -> String {
+    let kept = heading.trim_matches('#').trim().chars().filter(|c| c.is_alphanumeric() || " -_".contains(*c));
+    kept.map(|c| if c == ' ' { '-' } else { c.to_ascii_lowercase() }).collect()
+}
+
+/// Every link to a file of the repository leads to one, and to a heading of it where it names one.
 fn links(t: &mut Tally, path: &Path, page: &str) {
-    for target in page.split("](").skip(1).map(|s| s.split(')').next().unwrap_or("")) {
-        let file = target.split('#').next().unwrap_or("");
-        if !file.is_empty() && !target.contains("://") {
-            let there = path.parent().expect("a folder").join(file).exists();
-            t.check(there, &format!("{}: the link to {target} leads nowhere", path.display()));
-        }
+    for target in page.split("](").skip(1).map(|s| s.split(')').next().unwrap_or("")).filter(|s| !s.contains("://")) {
+        let (file, heading) = target.split_once('#').unwrap_or((target, ""));
+        let named = if file.is_empty() { path.to_path_buf() } else { path.parent().expect("a folder").join(file) };
+        let there = named.exists() && (heading.is_empty() || read(&named).lines().any(|l| l.starts_with('#') && slug(l) == heading));
+        t.check(there, &format!("{}: the link to {target} leads nowhere", path.display()));
     }
 }
 
@@ -274,7 +280,9 @@ fn main() {
     shared(&mut t, &proofs);
     lengths(&mut t);
     faults(&mut t, &read("docs/FAULTS.md"));
-    for path in files(Path::new("docs"), ".md").iter().chain(&[PathBuf::from("README.md")]) {
+    book::held(&mut t, &read("docs/BOOK.md"));
+    let others = ["README.md", "bindings/rust/README.md", "tools/book/README.md", "oracle/README.md"].map(PathBuf::from);
+    for path in files(Path::new("docs"), ".md").iter().chain(&others) {
         links(&mut t, path, &read(path));
     }
     t.end();

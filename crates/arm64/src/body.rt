@@ -1,4 +1,4 @@
-// What the words of an ARM64 body hold (document 01):
+// What the words of an ARM64 body hold (docs/BOOK.md):
 //
 //     0                address
 //     1                size

@@ -33,7 +33,7 @@ ghost use Rattle.arm64.specs.Index.{opsRun};
 // x30, the link register.
 const LR: u64 = 30;
 
-// The largest that document 01 allows.
+// The largest that a body may have (docs/BOOK.md).
 const MOST_OPS: u32 = 1024;
 
 const MOST_REGISTER: u32 = 255;

@@ -1,4 +1,4 @@
-// What the words of a DWARF body hold (document 01); a 64-bit number is two words, the low one first:
+// What the words of a DWARF body hold (docs/BOOK.md); a 64-bit number is two words, the low one first:
 //
 //     0                family
 //     1                initial address

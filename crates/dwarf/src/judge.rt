@@ -36,7 +36,7 @@ ghost use lib.Dec.{T, eqb, leb, ltb};
 ghost use Rattle.dwarf.specs.Dwarf.{rulesFrom, rows, registers, member, once, ruleFits, rulesFit, rowFits, rowsFit, headFits, dwarfLayout, dwarfSkipped, anyBelow, dwarfReach, dwarfJudged, rulesOf, distinct};
 ghost use Rattle.dwarf.specs.Cache.{firstIn, behind, Known};
 
-// The largest that document 01 allows.
+// The largest that a body may have (docs/BOOK.md).
 const MOST_FAMILY: u32 = 10;
 
 const MOST_ROWS: u32 = 1024;

@@ -1,4 +1,4 @@
-// What a call answers, as document 01 numbers it.
+// What a call answers, by the numbers of docs/BOOK.md.
 
 // every entry is done
 pub const NONE: u32 = 0;

@@ -1,4 +1,4 @@
--- STACK lines and their text (document 01, section Sense and the bodies' lines; Breakpad symbol file format, STACK CFI and STACK WIN).
+-- STACK lines and their text (document 01, Sense; Breakpad symbol file format, STACK CFI and STACK WIN).
 use Prim.Native.Nat.{ℕ}
 use mathlib.Core.Bool.{Bool, true, false, not, _&&_}
 use mathlib.Core.List.{List, [], _∷_, _++_}

@@ -1,4 +1,4 @@
-// What the words of a PDB body hold (document 01). A mark is 1 where there is one, else 0:
+// What the words of a PDB body hold (docs/BOOK.md). A mark is 1 where there is one, else 0:
 //
 //     0 type                      8 max stack
 //     1 code start                9 base pointer, 0 or 1

@@ -32,7 +32,7 @@ ghost use lib.Dec.{T};
 ghost use Rattle.text.specs.Tests.{all};
 ghost use Rattle.pdb.specs.Pdb.{ranges, wordsFrom, printable, apart, rangeFits, rangesFit, sizesFit, flagsFit, lengthFits, countsFit, restFits, pdbLayout, repeats, pdbSkipped, inReach, pdbJudged};
 
-// The largest that document 01 allows.
+// The largest that a body may have (docs/BOOK.md).
 const MOST_TYPE: u32 = 4;
 
 const MOST_16_BITS: u32 = 0xffff;

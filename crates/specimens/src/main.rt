@@ -1,4 +1,5 @@
-// Runs the cases of standard input: document 01's specimens without a star, and books of all four kinds on both sides of its limits.
+// Runs the cases of standard input: the specimens of document 01 without a star (docs/BOOK.md says what that is), and books of all four kinds on
+// both sides of the limits.
 //
 // A case is a line 'NAME | LIMIT WORK TEXT | WORDS': a name, the limit and how long the work area and the text buffer are, the book's words in decimal.
 // N* stands for the last three words N times more, and N: for the last two. A line without two bars is a comment, and so is one with a # before.

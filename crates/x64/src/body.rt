@@ -1,4 +1,4 @@
-// What the words of an x64 body hold (document 01):
+// What the words of an x64 body hold (docs/BOOK.md):
 //
 //     0                begin address
 //     1                end address

@@ -33,7 +33,7 @@ ghost use Rattle.x64.specs.X64.{chain, opFits, opsFit, infoFits, x64Layo
 ghost use Rattle.x64.specs.Index.{opsRun, admitted};
 ghost use Rattle.x64.specs.Scan.{scanStart, lose, framed, advance, scanStep, scanned, scanNumber};
 
-// The largest that document 01 allows.
+// The largest that a body may have (docs/BOOK.md).
 const MOST_INFOS: u32 = 32;
 
 const MOST_OPS: u32 = 255;
