@@ -9,11 +9,11 @@ ARCHIVE = target/staticlib/libstacklines.a
 
 help:
 	@echo 'make run BOOK=file        print the STACK lines of a book, as specimens/first.book'
-	@echo 'make compare A=file B=file   say whether two books have the same records'
+	@echo 'make compare A=file B=file   say whether two books have the same records, and list those that differ'
 	@echo 'make test                 everything: the proofs, the must-fail edits, the programs, the tests beside them'
 	@echo 'make lib [PREFIX=dir]     the archive to link from C, $(ARCHIVE), its header is bindings/c/stacklines.h; with PREFIX also installed'
 	@echo 'make install PREFIX=dir   header, archive and pkg-config file to dir/include and dir/lib, once make lib has made the archive'
-	@echo 'make book                 the tool that makes books from readable text and shows them, target/book; tools/book/README.md'
+	@echo 'make book                 the tool that makes books from readable text, shows and compares them, target/book; tools/book/README.md'
 	@echo 'make fuzz [SEED=] [N=]    the archive against the model and the Rust on N books, from a fresh seed unless one is given'
 	@echo 'make faults               wrong programs, each caught by a test or refused by the prover; some minutes'
 	@echo 'make bench [LTO=fat]      the speed beside the Rust, how the time grows, the stack taken; LTO links the Rust that way'
@@ -30,11 +30,7 @@ run:
 	@sh tools/run '$(BOOK)'
 
 compare:
-	@test -f '$(A)' && test -f '$(B)' || { echo 'make compare A=file B=file' >&2; exit 2; }
-	@mkdir -p target
-	@test -f target/bin/compare || echo 'proving compare first; that takes minutes' >&2
-	@rt check compare >target/compare.log 2>&1 || { cat target/compare.log >&2; exit 1; }
-	@target/bin/compare '$(A)' '$(B)'
+	@sh tools/compare '$(A)' '$(B)'
 
 test:
 	@sh tests/run
@@ -54,7 +50,7 @@ install:
 
 book:
 	@mkdir -p target
-	@cargo build --offline --release -q -j1 --manifest-path tools/book/Cargo.toml
+	@cargo build --offline --release -q -j1 --manifest-path tools/book/Cargo.toml $$(test ! -f $(ARCHIVE) || echo --features compare)
 	@cp tools/book/target/release/book target/book
 	@echo target/book
 

@@ -2,18 +2,20 @@
 //!
 //! [`make`] turns text into a book, [`show`] a book into text. What `show` gives, `make` turns into the same bytes, for
 //! every file: words that no kind reads are shown behind their line, bodies that break their layout and books
-//! that break the contents rules as plain words.
+//! that break the contents rules as plain words. [`differences`] puts the STACK lines of two books side by side.
 
 #![deny(missing_docs)]
 #![forbid(unsafe_code)]
 
 mod arm64;
+mod differences;
 mod dwarf;
 mod line;
 mod pdb;
 mod raw;
 mod x64;
 
+pub use differences::{differences, Differences};
 pub use line::Error;
 
 use line::Line;
@@ -101,11 +103,16 @@ fn body<E: Form>(head: &mut Line, rest: &mut [Line]) -> Result<Vec<u32>, Error> 
     entry.write(&unused).map_err(|fault| head.error(fault.what()))
 }
 
-/// A text that [`make`] turns into these bytes.
-pub fn show(book: &[u8]) -> String {
+/// The words of a book's bytes, and the bytes of a broken last word.
+pub fn words(book: &[u8]) -> (Vec<u32>, &[u8]) {
     let whole = book.chunks_exact(4);
     let broken = whole.remainder();
-    let words: Vec<u32> = whole.map(|word| u32::from_le_bytes(word.try_into().expect("four bytes"))).collect();
+    (whole.map(|word| u32::from_le_bytes(word.try_into().expect("four bytes"))).collect(), broken)
+}
+
+/// A text that [`make`] turns into these bytes.
+pub fn show(book: &[u8]) -> String {
+    let (words, broken) = words(book);
     if !broken.is_empty() {
         return format!("# refused 3: the last word is broken\n{}", raw::show_book(&words, broken));
     }

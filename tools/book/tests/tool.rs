@@ -2,24 +2,8 @@
 
 mod common;
 
-use common::folder;
+use common::{folder, run};
 use std::fs;
-use std::io::Write;
-use std::process::{Command, Output, Stdio};
-
-/// Runs the command with this standard input.
-fn run(words: &[&str], input: &[u8]) -> Output {
-    let mut child = Command::new(env!("CARGO_BIN_EXE_book"))
-        .args(words)
-        .stdin(Stdio::piped())
-        .stdout(Stdio::piped())
-        .stderr(Stdio::piped())
-        .spawn()
-        .unwrap();
-    // A command that fails may not read its input.
-    let _ = child.stdin.take().unwrap().write_all(input);
-    child.wait_with_output().unwrap()
-}
 
 fn check_failure(words: &[&str], input: &[u8], status: i32, what: &str) {
     let output = run(words, input);
@@ -50,4 +34,6 @@ fn failures() {
     check_failure(&["show", "no such file"], b"", 1, "no such file: ");
     check_failure(&["print"], b"", 2, "book make [FILE]");
     check_failure(&[], b"", 2, "book make [FILE]");
+    check_failure(&["compare", "one"], b"", 2, "book compare A B");
+    check_failure(&["compare", "one", "two", "three"], b"", 2, "book compare A B");
 }
