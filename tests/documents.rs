@@ -1,10 +1,11 @@
 //! Holds the documents to the sources: every name in the tables of ARCHITECTURE.md and PROOFS.md stands in the code, the definitions or the proofs,
-//! every law in the file beside it, and every file that they name is there; every public function has a row, every must-fail edit and planted fault
-//! is named, and none that is not there; what has to be believed is listed (reach.rs), and what a sense shares with the text; no line of a definition or a proof is too long; every link leads to a file.
+//! every law in the file beside it, and every file that they name is there; every public function has a row, every must-fail edit is named, and none
+//! that is not there; the planted faults are counted, and each can be planted; what has to be believed is listed (reach.rs), and what a sense shares with the text; no line of a definition or a proof is too long; every link leads to a file.
 //!
 //! Run from the repository's root. The last line is 'N passed, M failed'.
 
 mod book;
+mod planted;
 mod reach;
 mod tally;
 
@@ -184,22 +185,6 @@ fn contracts(t: &mut Tally, proofs: &str, crates: &BTreeMap<String, BTreeSet<Str
     }
 }
 
-/// The page of planted faults has a row for each edit, and no other.
-fn faults(t: &mut Tally, page: &str) {
-    let rows: BTreeSet<String> = tables(page).iter().flat_map(|x| x[1..].iter().map(|r| r[0].to_string())).collect();
-    let mut edits = BTreeSet::new();
-    for path in files(Path::new("tests/faults"), ".edit") {
-        let folder = stem(path.parent().expect("a folder"));
-        edits.insert(format!("{folder}/{}", stem(&path)));
-    }
-    for edit in &edits {
-        t.check(rows.contains(edit), &format!("FAULTS.md: {edit} has no row"));
-    }
-    for row in &rows {
-        t.check(edits.contains(row), &format!("FAULTS.md: there is no edit {row}"));
-    }
-}
-
 /// The names that a file has of the kinds' and the call's definitions, but for those of the code's types and of other senses.
 fn taken(text: &str) -> BTreeSet<String> {
     let uses = text.lines().filter_map(|l| l.strip_prefix("use Rattle·")).filter_map(|l| l.trim_end_matches('}').split_once(".{"));
@@ -279,7 +264,7 @@ fn main() {
     contracts(&mut t, &proofs, &crates);
     shared(&mut t, &proofs);
     lengths(&mut t);
-    faults(&mut t, &read("docs/FAULTS.md"));
+    planted::held(&mut t, &read("docs/FAULTS.md"), &proofs, &crates);
     book::held(&mut t, &read("docs/BOOK.md"));
     let others = ["README.md", "bindings/rust/README.md", "tools/book/README.md", "oracle/README.md"].map(PathBuf::from);
     for path in files(Path::new("docs"), ".md").iter().chain(&others) {
