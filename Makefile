@@ -16,7 +16,7 @@ help:
 	@echo 'make book                 the tool that makes books from readable text, shows and compares them, target/book; tools/book/README.md'
 	@echo 'make fuzz [SEED=] [N=]    the archive against the model and the Rust on N books, from a fresh seed unless one is given'
 	@echo 'make faults               wrong programs, each caught by a test or refused by the prover; some minutes'
-	@echo 'make bench [LTO=fat]      the speed beside the Rust, how the time grows, the stack taken; LTO links the Rust that way'
+	@echo 'make bench [LTO=fat]      the speed beside the Rust and a plain copy, how the time grows, the stack taken; LTO links the Rust that way'
 	@echo 'make bench-docs           the same, and its tables into docs/BENCHMARKS.md'
 	@echo 'make profile              instructions by function on both sides, with valgrind'
 	@echo 'make prove                the proofs alone'
@@ -24,7 +24,8 @@ help:
 	@echo 'make fmt                  lay out the sources'
 	@echo 'make clean                remove what was built'
 	@echo
-	@echo 'RUST_SRC is the folder of the Rust source, $(RUST_SRC); without it its tests are skipped.'
+	@echo 'RUST_SRC is the Rust source, a checkout or a folder of its files, $(RUST_SRC); without it its tests are skipped.'
+	@echo 'REAL is a folder with books of real files for bench and profile; without it oracle/real has a sample.'
 
 run:
 	@sh tools/run '$(BOOK)'

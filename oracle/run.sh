@@ -1,24 +1,22 @@
 #!/bin/sh
 # Builds and runs one of the programs: run.sh NAME WORDS...
 # NAME is test, model_vs_rust, vectors, rust_lines, cases_vs_rust, port_vs_model, first_difference, port_vs_rust,
-# bindings_vs_model or bench.
+# files_vs_rust, bindings_vs_model or bench.
 # What needs the Rust source or the port's archive says so where these are not at hand, and is skipped.
 set -eu
 
 oracle=$(cd "$(dirname "$0")" && pwd)
 name=$1
 shift
+. "$oracle/source.sh"
 
 need_rust() {
     src=${RUST_SRC:-$oracle/../../shared/docs/src}
-    for file in src--symbolic-cfi--src--lib.rs.txt src--symbolic-common--src--types.rs.txt; do
-        if [ ! -f "$src/$file" ]; then
-            echo "skipped: no Rust source"
-            exit 0
-        fi
-    done
-    RUST_SRC=$(cd "$src" && pwd)
-    export RUST_SRC
+    if ! RUST_CFI=$(rust_source "$src" symbolic-cfi/src/lib.rs) || ! RUST_TYPES=$(rust_source "$src" symbolic-common/src/types.rs); then
+        echo "skipped: no Rust source"
+        exit 0
+    fi
+    export RUST_CFI RUST_TYPES
 }
 
 need_port() {
@@ -36,7 +34,7 @@ case $name in
 test) package=model ;;
 model_vs_rust | vectors | rust_lines | cases_vs_rust) need_rust; package=rust ;;
 port_vs_model | first_difference) need_port; package=port ;;
-port_vs_rust) need_rust; need_port; package=port_rust ;;
+port_vs_rust | files_vs_rust) need_rust; need_port; package=port_rust ;;
 bench) need_rust; need_port; package=bench ;;
 bindings_vs_model) need_port; package=bindings ;;
 *)

@@ -1,16 +1,14 @@
 //! Compares crates/leaves/stdout with the Rust: the names with the tables read out of the source text of
 //! symbolic-cfi, numbers, rules and lines with Rust's own formatting.
 //!
-//! Arguments: the stored output, and the folder with the Rust source. The last line is 'N passed, M failed'.
+//! Arguments: the stored output, and the files of the Rust source, symbolic-cfi/src/lib.rs and symbolic-common/src/types.rs, where they are at
+//! hand. The last line is 'N passed, M failed'.
 
 mod tally;
 
 use std::collections::BTreeSet;
 use std::{env, fs};
 use tally::Tally;
-
-const SOURCE: &str = "src--symbolic-cfi--src--lib.rs.txt";
-const TYPES: &str = "src--symbolic-common--src--types.rs.txt";
 
 impl Tally {
     /// The lines that start with `word` are just these, in this order.
@@ -60,12 +58,13 @@ fn arms(source: &str, types: &str) -> Vec<(u32, String)> {
     out
 }
 
-fn names(t: &mut Tally, output: &str, folder: &str) {
-    let read = |file: &str| fs::read_to_string(format!("{folder}/{file}"));
-    let (Ok(source), Ok(types)) = (read(SOURCE), read(TYPES)) else {
-        println!("skipped: no Rust source");
+fn names(t: &mut Tally, output: &str, files: &[String]) {
+    let [source, types] = files else {
+        println!("skipped: the names of the tables: no Rust source");
         return;
     };
+    let read = |file| fs::read_to_string(file).expect("the Rust source");
+    let (source, types) = (read(source), read(types));
     let mut expected = BTreeSet::new();
     for (family, name) in arms(&source, &types) {
         for (register, entry) in table(&source, &name).iter().enumerate() {
@@ -171,7 +170,7 @@ fn main() {
     let args: Vec<String> = env::args().collect();
     let output = fs::read_to_string(&args[1]).expect("the stored output");
     let mut t = Tally::default();
-    names(&mut t, &output, &args[2]);
+    names(&mut t, &output, &args[2..]);
     pe_and_arm64(&mut t, &output);
     numbers(&mut t, &output);
     rules(&mut t, &output);

@@ -1,17 +1,21 @@
-//! The port beside the unchanged Rust: `bench` prints the tables of docs/BENCHMARKS.md for realistic books, `bench real FILE..` that of real ones;
+//! The port beside the unchanged Rust: `bench tables FILE..` prints the tables of docs/BENCHMARKS.md, for realistic books and for those of the files;
 //! `bench port BOOKS TIMES` and `bench rust BOOKS TIMES` run one side alone, for a profiler;
-//! `bench size BOOKS` prints the words and the bytes of text of the books that they run, `bench text BOOKS` the text.
-//! BOOKS is a kind, for its full realistic books, or a file of books: for each its limit (32), its number of words and the words, little-endian.
+//! `bench size BOOKS` prints the words and the bytes of text of the books that they run, `bench text BOOKS` the text;
+//! `bench sample FILE WORDS` writes a file with one book of at most so many words, its entries taken evenly from all of the file.
+//! BOOKS is a kind, for its full realistic books, or a file of books (model/src/files.rs), all with limit 32.
 
 mod clock;
 mod realistic;
 mod sides;
 mod stack;
 
+use model::book::{assemble, bodies};
+use model::files::{self, Stored};
 use model::rng::Rng;
 use model::{gen, ALL_KINDS};
 use rust::{prepare, Prepared};
-use sides::{text_room, Both, Port};
+use sides::{text_room, Both, Port, NO_LIMIT};
+use std::io::Write;
 
 const NAMES: [&str; 4] = ["x64", "ARM64", "DWARF", "PDB"];
 const BOOKS: usize = 8;
@@ -24,12 +28,12 @@ const COUNTS: [usize; 6] = [1, 4, 16, 64, 256, 1024];
 fn main() {
     let words: Vec<String> = std::env::args().collect();
     match &words[1..] {
-        [] => tables(),
-        [real, files @ ..] if real == "real" => real_books(files),
+        [tables, files @ ..] if tables == "tables" => print_tables(files),
         [size, books] if size == "size" => print_size(&books_of(books)),
         [text, books] if text == "text" => print_text(&books_of(books)),
+        [sample, file, most] if sample == "sample" => print_sample(&read_books(file), most.parse().expect("WORDS")),
         [side, books, times] => alone(side, &books_of(books), times.parse().expect("TIMES")),
-        _ => panic!("bench, or bench real FILE.., or bench port|rust BOOKS TIMES, or bench size|text BOOKS"),
+        _ => panic!("bench tables FILE.., or bench port|rust BOOKS TIMES, or bench size|text BOOKS, or bench sample FILE WORDS"),
     }
 }
 
@@ -42,84 +46,73 @@ fn books_of(word: &str) -> Vec<Vec<u32>> {
 }
 
 fn read_books(path: &str) -> Vec<Vec<u32>> {
-    let bytes = std::fs::read(path).unwrap_or_else(|e| panic!("{path}: {e}"));
-    let words: Vec<u32> = bytes.chunks_exact(4).map(|b| u32::from_le_bytes([b[0], b[1], b[2], b[3]])).collect();
-    let mut books = Vec::new();
-    let mut rest = &words[..];
-    while let [limit, count, more @ ..] = rest {
-        assert_eq!(*limit, 32, "{path}: a limit of {limit}");
-        let (book, behind) = more.split_at(*count as usize);
-        books.push(book.to_vec());
-        rest = behind;
-    }
-    books
+    let stored = files::read(path);
+    assert!(stored.iter().all(|s| s.limit == NO_LIMIT), "{path}: a limit that is not {NO_LIMIT}");
+    stored.into_iter().map(|s| s.book).collect()
 }
 
 fn name(kind: u32) -> &'static str {
     NAMES[kind as usize - 1]
 }
 
-fn tables() {
+/// The books of one row.
+struct Row {
+    name: String,
+    books: Vec<Both>,
+}
+
+impl Row {
+    fn new(name: String, books: Vec<Vec<u32>>, port: &mut Port, text: &mut Vec<u8>) -> Self {
+        Row { name, books: books.into_iter().map(|book| Both::new(book, port, text)).collect() }
+    }
+}
+
+fn print_tables(files: &[String]) {
     let (mut port, mut text) = (Port::new(), text_room());
-    let mut kinds: Vec<Vec<Both>> = Vec::new();
+    let mut rows = Vec::new();
     for &kind in ALL_KINDS {
-        kinds.push((0..BOOKS).map(|turn| Both::new(realistic::book(kind, turn), &mut port, &mut text)).collect());
+        let books = (0..BOOKS).map(|turn| realistic::book(kind, turn)).collect();
+        rows.push(Row::new(format!("{}, generated", name(kind)), books, &mut port, &mut text));
+    }
+    for file in files {
+        let stem = std::path::Path::new(file).file_stem().expect("a file").to_string_lossy();
+        rows.push(Row::new(format!("{stem}, real"), read_books(file), &mut port, &mut text));
     }
     for _ in 0..ROUNDS {
-        for book in kinds.iter_mut().flatten() {
+        for book in rows.iter_mut().flat_map(|row| &mut row.books) {
             book.time(1, &mut port, &mut text);
         }
     }
-    full_books(&kinds);
+    print_rows(&rows);
     println!();
     growth(&mut port, &mut text);
     println!();
     stack_taken(&mut port);
 }
 
-/// Both sides on the books of files, and one row for each file.
-fn real_books(files: &[String]) {
-    let (mut port, mut text) = (Port::new(), text_room());
-    let mut each: Vec<(String, Vec<Both>)> = Vec::new();
-    for file in files {
-        let name = std::path::Path::new(file).file_stem().expect("a file").to_string_lossy().into_owned();
-        each.push((name, read_books(file).into_iter().map(|book| Both::new(book, &mut port, &mut text)).collect()));
+fn print_rows(rows: &[Row]) {
+    println!("Each book the least of {ROUNDS} times; the last column is the Rust's time over the port's:\n");
+    println!("| books | entries | words | bytes of text | port, ns/word | Rust, ns/word | copy, ns/word | port, ns/byte | Rust, ns/byte | copy, ns/byte | times faster |");
+    println!("|---|{}", "--:|".repeat(10));
+    for row in rows {
+        print_row(row);
     }
-    for _ in 0..ROUNDS {
-        for (_, books) in &mut each {
-            books.iter_mut().for_each(|book| book.time(1, &mut port, &mut text));
-        }
-    }
-    println!("Books of real files, the least of {ROUNDS} times; the last column is the Rust's time over the port's:\n");
-    print_head("books");
-    for (name, books) in &each {
-        print_row(name, books);
-    }
+    let all = |of: fn(&Both) -> f64| rows.iter().flat_map(|row| &row.books).map(of).sum::<f64>();
+    println!("\nA plain copy moves {:.1} GB/s here.", all(|b| b.copied() as f64) / all(|b| b.copy));
 }
 
-fn full_books(kinds: &[Vec<Both>]) {
-    println!("{BOOKS} full books of each kind, the least of {ROUNDS} times; the last column is the Rust's time over the port's:\n");
-    print_head("kind");
-    for books in kinds {
-        print_row(name(books[0].book[0]), books);
-    }
-}
-
-fn print_head(first: &str) {
-    println!("| {first} | entries | words | bytes of text | port, ns/word | Rust, ns/word | port, ns/byte | Rust, ns/byte | times faster |");
-    println!("|---|--:|--:|--:|--:|--:|--:|--:|--:|");
-}
-
-fn print_row(name: &str, books: &[Both]) {
+fn print_row(Row { name, books }: &Row) {
     let sum = |of: fn(&Both) -> f64| books.iter().map(of).sum::<f64>();
     let (entries, words, bytes) = (sum(|b| b.entries() as f64), sum(|b| b.book.len() as f64), sum(|b| b.bytes as f64));
-    let (port, rust) = (sum(|b| b.port), sum(|b| b.rust));
+    let (port, rust, copy) = (sum(|b| b.port), sum(|b| b.rust), sum(|b| b.copy));
     println!(
-        "| {name} | {entries} | {words} | {bytes} | {:.2} | {:.2} | {:.2} | {:.2} | {:.2} |",
+        "| {name} | {entries} | {words} | {bytes} | {:.2} | {:.2} | {:.2} | {:.2} | {:.2} | {:.2} | {:.2} |",
         port / words,
         rust / words,
+        copy / words,
         port / bytes,
         rust / bytes,
+        copy / bytes,
         rust / port
     );
 }
@@ -187,6 +180,14 @@ fn print_text(books: &[Vec<u32>]) {
         prepare(book).translate(&mut text);
         print!("{}", String::from_utf8_lossy(&text));
     }
+}
+
+/// Each `step`th entry of all books, with the least step that makes one book of at most so many words.
+fn print_sample(books: &[Vec<u32>], most: usize) {
+    let all: Vec<Vec<u32>> = books.iter().flat_map(|book| bodies(book).expect("a book")).map(<[u32]>::to_vec).collect();
+    let every = |step: usize| assemble(books[0][0], &all.iter().step_by(step).cloned().collect::<Vec<_>>());
+    let book = (1..).map(every).find(|book| book.len() <= most && book[1] <= 1024).expect("a book");
+    std::io::stdout().write_all(&files::written(&Stored { limit: NO_LIMIT, book })).expect("standard output");
 }
 
 /// One side `times` over the books, and nothing else of it.

@@ -5,6 +5,7 @@ pub mod arm64;
 pub mod book;
 pub mod due;
 pub mod dwarf;
+pub mod files;
 pub mod gen;
 pub mod names;
 pub mod pdb;

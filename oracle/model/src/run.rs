@@ -31,11 +31,14 @@ pub struct Run {
     pub tally: Tally,
     passed: u64,
     failed: u64,
+    books: u64,
+    outside: u64,
 }
 
 impl Run {
     /// One comparison; `show` prints a book that differs.
     pub fn compared(&mut self, differs: bool, show: impl FnOnce()) {
+        self.books += 1;
         if !differs {
             self.passed += 1;
             return;
@@ -44,6 +47,12 @@ impl Run {
         if self.failed <= MOST_SHOWN {
             show();
         }
+    }
+
+    /// A book of which nothing can be compared.
+    pub fn outside(&mut self) {
+        self.books += 1;
+        self.outside += 1;
     }
 
     /// Prints the table and the counts, and ends the program. What is due and never occurred is a failure.
@@ -57,6 +66,14 @@ impl Run {
             for what in missing {
                 println!("never occurred: {what}");
             }
+        }
+        self.close()
+    }
+
+    /// Prints the counts alone, and ends the program.
+    pub fn close(self) -> ! {
+        if self.outside > 0 {
+            println!("skipped: {} of {} books outside the Rust's domain", self.outside, self.books);
         }
         println!("{} passed, {} failed", self.passed, self.failed);
         std::process::exit(i32::from(self.failed > 0));

@@ -72,13 +72,14 @@ fn process(object: &Object, limit: Option<usize>) -> Answer {
 
 /// The part of a book that lies in the Rust's domain: all of it; the entries up to the one refused by 5, as no later
 /// one is looked at; or the entries before one refused otherwise. With it the model's answer to that part.
-/// None where not even the contents rules hold.
+/// None where it has none: the contents rules do not hold, or the first entry is refused by another number than 5.
 pub fn in_domain(book: &[u32], limit: u32, tally: &mut Tally) -> Option<(Vec<u32>, Translated)> {
     let mut done = translate(book, limit, usize::MAX, usize::MAX, tally);
     let part = match done.number {
         0 => return Some((book.to_vec(), done)),
         1..=3 => return None,
         5 => done.entries + 1,
+        _ if done.entries == 0 => return None,
         _ => {
             done.number = 0;
             done.entries

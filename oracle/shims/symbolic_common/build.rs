@@ -1,16 +1,13 @@
-//! Names the file `types.rs` of the Rust source, which is compiled where it lies.
+//! Names the file `symbolic-common/src/types.rs` of the Rust source, which is compiled where it lies.
 
 use std::path::PathBuf;
 use std::{env, fs};
 
 fn main() {
-    let root = PathBuf::from(env::var("CARGO_MANIFEST_DIR").unwrap()).join("../../..");
-    let src = env::var("RUST_SRC").map_or_else(|_| root.join("../shared/docs/src"), PathBuf::from);
-    let file = src.join("src--symbolic-common--src--types.rs.txt");
-    let file = file.canonicalize().expect("no Rust source: set RUST_SRC");
+    let file = env::var("RUST_TYPES").expect("the file's name in RUST_TYPES, as run.sh gives it");
     let out = PathBuf::from(env::var("OUT_DIR").unwrap()).join("source.rs");
     let code = format!("#[path = {file:?}]\nmod types;\n");
     fs::write(out, code).unwrap();
-    println!("cargo:rerun-if-env-changed=RUST_SRC");
-    println!("cargo:rerun-if-changed={}", file.display());
+    println!("cargo:rerun-if-env-changed=RUST_TYPES");
+    println!("cargo:rerun-if-changed={file}");
 }

@@ -23,7 +23,8 @@ fn main() {
             }
         }
     }
-    println!("not compared, outside the domain or with a bound for the text: {outside}");
+    let calls = passed + failed + outside;
+    println!("skipped: {outside} of {calls} calls outside the Rust's domain, or with a bound for the text");
     println!("{passed} passed, {failed} failed");
     process::exit(i32::from(failed > 0));
 }

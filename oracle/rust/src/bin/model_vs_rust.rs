@@ -22,11 +22,9 @@ fn main() {
 
 fn compare(run: &mut Run, book: &[u32], limit: u32) {
     let Some((part, done)) = in_domain(book, limit, &mut run.tally) else {
-        run.tally.count("outside the domain");
-        run.compared(false, || ());
+        run.outside();
         return;
     };
-    run.tally.count("compared with the Rust");
     run.compared(!agrees(&done, &rust_answer(&part, limit)), || show(&part, limit));
 }
 
