@@ -33,7 +33,7 @@ fn main() {
         [text, books] if text == "text" => print_text(&books_of(books)),
         [sample, file, most] if sample == "sample" => print_sample(&read_books(file), most.parse().expect("WORDS")),
         [side, books, times] => alone(side, &books_of(books), times.parse().expect("TIMES")),
-        _ => panic!("bench tables FILE.., or bench port|rust BOOKS TIMES, or bench size|text BOOKS, or bench sample FILE WORDS"),
+        _ => panic!("bench tables FILE.. | port|rust BOOKS TIMES | size|text BOOKS | sample FILE WORDS"),
     }
 }
 
@@ -98,7 +98,7 @@ fn print_rows(rows: &[Row]) {
         print_row(row);
     }
     let all = |of: fn(&Both) -> f64| rows.iter().flat_map(|row| &row.books).map(of).sum::<f64>();
-    println!("\nA plain copy moves {:.1} GB/s here.", all(|b| b.copied() as f64) / all(|b| b.copy));
+    println!("\nThe plain copies move {:.1} GB/s.", all(|b| b.copied() as f64) / all(|b| b.copy));
 }
 
 fn print_row(Row { name, books }: &Row) {
@@ -182,11 +182,11 @@ fn print_text(books: &[Vec<u32>]) {
     }
 }
 
-/// Each `step`th entry of all books, with the least step that makes one book of at most so many words.
+/// Each `step`th entry of all books, with the least step that makes one book, of at most so many words.
 fn print_sample(books: &[Vec<u32>], most: usize) {
     let all: Vec<Vec<u32>> = books.iter().flat_map(|book| bodies(book).expect("a book")).map(<[u32]>::to_vec).collect();
     let every = |step: usize| assemble(books[0][0], &all.iter().step_by(step).cloned().collect::<Vec<_>>());
-    let book = (1..).map(every).find(|book| book.len() <= most && book[1] <= 1024).expect("a book");
+    let book = (1..).map(every).find(|book| book.len() <= most && bodies(book).is_some()).expect("a book");
     std::io::stdout().write_all(&files::written(&Stored { limit: NO_LIMIT, book })).expect("standard output");
 }
 

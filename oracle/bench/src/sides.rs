@@ -28,7 +28,7 @@ impl Port {
         port::translate(book, NO_LIMIT, &mut self.work, &mut self.text, &mut self.counts)
     }
 
-    /// The book's words and a finished text, copied and nothing else: less time than this nothing takes that reads the one and writes the other.
+    /// The book's words and a finished text, each copied once and nothing else: the measure of what the machine does at all.
     fn copy(&mut self, book: &[u32], text: &[u8]) {
         self.words[..book.len()].copy_from_slice(black_box(book));
         self.text[..text.len()].copy_from_slice(black_box(text));

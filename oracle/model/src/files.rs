@@ -1,4 +1,4 @@
-//! Files of books: for each book its limit, its number of words and the words, all little-endian.
+//! Words in files, little-endian. A file of books has for each its limit, its number of words and the words.
 
 use std::fs;
 
@@ -8,10 +8,16 @@ pub struct Stored {
     pub book: Vec<u32>,
 }
 
-/// The books of a file; the program ends where it is none.
+/// The words of a file's bytes; none where the last one is broken.
+pub fn words(bytes: &[u8]) -> Option<Vec<u32>> {
+    let whole = bytes.chunks_exact(4);
+    whole.remainder().is_empty().then(|| whole.map(|b| u32::from_le_bytes([b[0], b[1], b[2], b[3]])).collect())
+}
+
+/// The books of a file; the program ends where it is no such file.
 pub fn read(path: &str) -> Vec<Stored> {
     let bytes = fs::read(path).unwrap_or_else(|error| panic!("{path}: {error}"));
-    let words: Vec<u32> = bytes.chunks_exact(4).map(|b| u32::from_le_bytes([b[0], b[1], b[2], b[3]])).collect();
+    let words = words(&bytes).unwrap_or_else(|| panic!("{path}: the last word is broken"));
     let mut books = Vec::new();
     let mut rest = &words[..];
     while let [limit, count, more @ ..] = rest {
@@ -19,7 +25,7 @@ pub fn read(path: &str) -> Vec<Stored> {
         books.push(Stored { limit: *limit, book: book.to_vec() });
         rest = behind;
     }
-    assert!(rest.is_empty() && bytes.len() % 4 == 0 && !books.is_empty(), "{path}: no file of books");
+    assert!(rest.is_empty() && !books.is_empty(), "{path}: no file of books");
     books
 }
 

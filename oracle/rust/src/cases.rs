@@ -1,5 +1,6 @@
 //! The cases of `tests/cases` and other books in readable form; `tools/book` describes both.
 
+use model::files;
 use std::fs;
 
 /// What a case says of one call: its line, the number and the limit, and the text where all of it fits.
@@ -52,9 +53,5 @@ fn call(line: usize, expected: &str) -> Result<Call, String> {
 }
 
 fn words(bytes: &[u8]) -> Result<Vec<u32>, String> {
-    let whole = bytes.chunks_exact(4);
-    if !whole.remainder().is_empty() {
-        return Err("the last word is broken".to_string());
-    }
-    Ok(whole.map(|word| u32::from_le_bytes([word[0], word[1], word[2], word[3]])).collect())
+    files::words(bytes).ok_or("the last word is broken".to_string())
 }

@@ -23,8 +23,10 @@ fn main() {
             }
         }
     }
-    let calls = passed + failed + outside;
-    println!("skipped: {outside} of {calls} calls outside the Rust's domain, or with a bound for the text");
+    if outside > 0 {
+        let calls = passed + failed + outside;
+        println!("skipped: {outside} of {calls} calls outside the Rust's domain, or with a bound for the text");
+    }
     println!("{passed} passed, {failed} failed");
     process::exit(i32::from(failed > 0));
 }
