@@ -1,4 +1,4 @@
-//! The one call into the archive. Its header is `bindings/c/stacklines.h`.
+//! The calls into the archive. Its header is `bindings/c/stacklines.h`.
 
 use crate::Text;
 
@@ -16,6 +16,18 @@ extern "C" {
         text_len: usize,
         counts: *mut u64,
         counts_len: usize,
+    ) -> u32;
+
+    fn stacklines_decode_x64(
+        bytes: *const u8,
+        bytes_len: usize,
+        begin: u32,
+        end: u32,
+        info_address: u32,
+        body: *mut u32,
+        body_len: usize,
+        count: *mut u64,
+        count_len: usize,
     ) -> u32;
 }
 
@@ -37,7 +49,7 @@ impl Called {
 }
 
 /// Translates into a buffer of `room` bytes.
-pub(crate) fn call(book: &[u32], limit: u32, room: usize) -> Called {
+pub(crate) fn translate(book: &[u32], limit: u32, room: usize) -> Called {
     let mut work = [0; WORK];
     let mut text = vec![0; room];
     let mut counts = [0; 2];
@@ -59,4 +71,27 @@ pub(crate) fn call(book: &[u32], limit: u32, room: usize) -> Called {
     // The counts are those of entries and of bytes in the buffer, so they fit.
     let [entries, length] = counts.map(|count| count as usize);
     Called { number, entries, length, text }
+}
+
+/// Decodes into a body of at most `room` words: the number, and the words filled. The addresses are begin, end and the info's.
+pub(crate) fn decode_x64(bytes: &[u8], addresses: [u32; 3], room: usize) -> (u32, Vec<u32>) {
+    let [begin, end, info_address] = addresses;
+    let mut body = vec![0; room];
+    let mut count = 0;
+    // SAFETY: as above: the pointers lead to as many elements as their lengths say, and body and count are borrowed here alone.
+    let number = unsafe {
+        stacklines_decode_x64(
+            bytes.as_ptr(),
+            bytes.len(),
+            begin,
+            end,
+            info_address,
+            body.as_mut_ptr(),
+            body.len(),
+            &mut count,
+            1,
+        )
+    };
+    body.truncate(count as usize);
+    (number, body)
 }

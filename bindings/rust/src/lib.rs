@@ -1,4 +1,4 @@
-//! STACK lines of a Breakpad symbol file from decoded unwind data.
+//! STACK lines of a Breakpad symbol file from unwind data.
 //!
 //! This is the Rust side of a static library whose every outcome is proved; docs/BOOK.md of its repository says what each
 //! is. The data comes as a book of words, which [`book`] makes from plain values:
@@ -34,6 +34,8 @@
 //! assert_eq!(refused.to_string(), "refused 4 at entry 1: the entry's body breaks its layout or a range");
 //! ```
 //!
+//! The entry of an x64 function can be made from the bytes of its `UNWIND_INFO`: see [`decode_x64`].
+//!
 //! The archive `libstacklines.a` is looked for in the folder that the environment variable `STACKLINES_LIB` names when this
 //! crate is built, by default where `make lib` writes it in the repository.
 
@@ -41,12 +43,14 @@
 #![deny(unsafe_op_in_unsafe_fn)]
 
 mod call;
+mod decode;
 mod refusal;
 mod text;
 
 #[doc(inline)]
 pub use stacklines_book as book;
 
+pub use decode::{decode_x64, Undecoded, MOST_X64_BODY};
 pub use refusal::{Refusal, Refused};
 pub use text::Text;
 
@@ -116,9 +120,9 @@ impl Translator {
     pub fn translate(&self, book: &[u32]) -> Result<Text, Refused> {
         let most = self.most_bytes.min(MOST_TEXT);
         let rooms = [BYTES_A_WORD, MOST_A_WORD].map(|each| book.len().saturating_mul(each).max(FIRST_ROOM).min(most));
-        let mut called = call::call(book, self.limit, rooms[0]);
+        let mut called = call::translate(book, self.limit, rooms[0]);
         if Refusal::from_number(called.number) == Some(Refusal::Room) && rooms[0] < rooms[1] {
-            called = call::call(book, self.limit, rooms[1]);
+            called = call::translate(book, self.limit, rooms[1]);
         }
         match Refusal::from_number(called.number) {
             None => Ok(called.done()),
@@ -127,7 +131,7 @@ impl Translator {
     }
 }
 
-/// Lets the example of README.md be tested.
+/// Lets the examples of README.md be tested.
 #[cfg(doctest)]
 #[doc = include_str!("../README.md")]
 struct Readme;

@@ -1,11 +1,13 @@
-//! Why a book is refused, and what was done before.
+//! Why a call refuses, and what was done of a book before.
 
 use crate::Text;
 use std::error::Error;
 use std::fmt;
 
-/// Why a book is refused. The first three are about the call, the others about one entry.
+/// Why a call refuses. A translation gives 1 to 9, of which the first three are about the call, the others about one entry;
+/// [`decode_x64`](crate::decode_x64) gives 4, 10 and 11. Later calls may add numbers.
 #[derive(Clone, Copy, Debug, PartialEq, Eq, Hash)]
+#[non_exhaustive]
 pub enum Refusal {
     /// 1: the work area is too short. This crate always gives one that is long enough.
     Work = 1,
@@ -13,7 +15,7 @@ pub enum Refusal {
     Limit = 2,
     /// 3: the book breaks the contents rules.
     Contents = 3,
-    /// 4: the entry's body breaks its layout or a range.
+    /// 4: the entry's body breaks its layout or a range; unwind bytes have no part, or more than 32.
     Layout = 4,
     /// 5: an x64 entry has more infos than the limit.
     Chain = 5,
@@ -23,14 +25,20 @@ pub enum Refusal {
     Frame = 7,
     /// 8: the entry's text is longer than 8,192 bytes.
     Long = 8,
-    /// 9: the text would be longer than the bound, [`Translator::most_bytes`](crate::Translator::most_bytes).
+    /// 9: the text would be longer than the bound, [`Translator::most_bytes`](crate::Translator::most_bytes). Bodies always have
+    /// room.
     Room = 9,
+    /// 10: the version of a part of unwind bytes is not 1.
+    UnwindVersion = 10,
+    /// 11: unwind bytes end before the four header bytes or the counted slots of a part.
+    UnwindShort = 11,
 }
 
 use Refusal::*;
 
 /// The refusals by number, from 1.
-const REFUSALS: [Refusal; 9] = [Work, Limit, Contents, Layout, Chain, Reach, Frame, Long, Room];
+const REFUSALS: [Refusal; 11] =
+    [Work, Limit, Contents, Layout, Chain, Reach, Frame, Long, Room, UnwindVersion, UnwindShort];
 
 impl Refusal {
     /// The refusal of a call's number, none for 0.
@@ -41,14 +49,14 @@ impl Refusal {
         }
     }
 
-    /// The number of the refusal, 1 to 9.
+    /// The number of the refusal, 1 to 11.
     pub fn number(self) -> u32 {
         self as u32
     }
 
-    /// Whether it is about one entry of the book: 4 to 9.
+    /// Whether a translation gives it for one entry of the book: 4 to 9.
     pub fn is_of_entry(self) -> bool {
-        self.number() >= Layout.number()
+        (Layout.number()..=Room.number()).contains(&self.number())
     }
 }
 
@@ -64,6 +72,8 @@ impl fmt::Display for Refusal {
             Frame => "the entry sets a frame register twice",
             Long => "the entry's text is longer than 8,192 bytes",
             Room => "the entry's text does not fit within the bound of the text",
+            UnwindVersion => "the version of a part is not 1",
+            UnwindShort => "the bytes end before the four header bytes or the counted slots of a part",
         })
     }
 }

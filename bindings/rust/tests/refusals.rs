@@ -1,4 +1,5 @@
-//! Every refusal that can be met through this crate. 1 cannot: the crate gives the work area, and it is long enough.
+//! Every refusal of a translation that can be met through this crate. 1 cannot: the crate gives the work area, and it is long
+//! enough. Those of unwind bytes are in decode.rs.
 
 mod common;
 

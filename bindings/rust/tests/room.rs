@@ -7,7 +7,7 @@ use stacklines::book::arm64::{Arm64, Operation as Code, Slot};
 use stacklines::book::pdb::{FrameType, Pdb, Range};
 use stacklines::book::x64::X64;
 use stacklines::book::{Book, MOST_ENTRIES};
-use stacklines::{translate, Refusal, Text, Translator, MOST_TEXT, NO_LIMIT};
+use stacklines::{translate, Refusal, Text, Translator, MOST_TEXT, MOST_X64_BODY, NO_LIMIT};
 
 /// Entries with a text of much more than the 16 bytes for each word that the first buffer has.
 fn entries(count: usize) -> Vec<u32> {
@@ -132,6 +132,33 @@ fn header_has_the_same_numbers() {
     let defined =
         |name: &str| header.lines().find_map(|line| line.strip_prefix(&format!("#define STACKLINES_{name} ")));
     assert_eq!(defined("LARGEST_TEXT"), Some(MOST_TEXT.to_string().as_str()));
+    assert_eq!(defined("LARGEST_X64_BODY"), Some(MOST_X64_BODY.to_string().as_str()));
     assert_eq!(defined("NO_LIMIT"), Some(NO_LIMIT.to_string().as_str()));
     assert_eq!(defined("VERSION"), Some(format!("{:?}", env!("CARGO_PKG_VERSION")).as_str()));
+}
+
+#[test]
+fn header_has_the_same_refusals() {
+    let header = include_str!("../../c/stacklines.h");
+    let names = header.lines().filter_map(|line| line.trim().strip_prefix("STACKLINES_")?.split_once(" = "));
+    let numbers: Vec<(&str, u32)> = names
+        .map(|(name, rest)| (name, rest.split([',', ' ']).next().and_then(|word| word.parse().ok()).expect("a number")))
+        .collect();
+    let due = [
+        ("WORK_SHORT", Refusal::Work),
+        ("LIMIT", Refusal::Limit),
+        ("CONTENTS", Refusal::Contents),
+        ("LAYOUT", Refusal::Layout),
+        ("CHAIN", Refusal::Chain),
+        ("REACH", Refusal::Reach),
+        ("FRAME", Refusal::Frame),
+        ("LONG", Refusal::Long),
+        ("ROOM", Refusal::Room),
+        ("UNWIND_VERSION", Refusal::UnwindVersion),
+        ("UNWIND_SHORT", Refusal::UnwindShort),
+    ];
+    assert_eq!(numbers[0], ("DONE", 0));
+    assert_eq!(numbers[1..], due.map(|(name, refusal)| (name, refusal.number())));
+    let of_entries: Vec<u32> = due.iter().filter(|(_, r)| r.is_of_entry()).map(|(_, r)| r.number()).collect();
+    assert_eq!(of_entries, [4, 5, 6, 7, 8, 9]);
 }
