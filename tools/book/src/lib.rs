@@ -2,7 +2,8 @@
 //!
 //! [`make`] turns text into a book, [`show`] a book into text. What `show` gives, `make` turns into the same bytes, for
 //! every file: words that no kind reads are shown behind their line, bodies that break their layout and books
-//! that break the contents rules as plain words. [`differences`] puts the STACK lines of two books side by side.
+//! that break the contents rules as plain words. [`differences`] puts the STACK lines of two books side by side, and [`hex`]
+//! reads bytes that are to be decoded.
 
 #![deny(missing_docs)]
 #![forbid(unsafe_code)]
@@ -10,12 +11,14 @@
 mod arm64;
 mod differences;
 mod dwarf;
+mod hex;
 mod line;
 mod pdb;
 mod raw;
 mod x64;
 
 pub use differences::{differences, Differences};
+pub use hex::{addresses, hex, hex_words};
 pub use line::Error;
 
 use line::Line;

@@ -98,6 +98,11 @@ pub(crate) fn quote(text: &str) -> String {
 }
 
 impl<'a> Line<'a> {
+    /// A line of these words, whatever they are.
+    pub fn of(words: &[&'a str]) -> Line<'a> {
+        Line { number: 1, tokens: words.iter().map(|word| Token::Word(word)).collect(), at: 0 }
+    }
+
     pub fn error(&self, what: &str) -> Error {
         Error::new(self.number, what)
     }

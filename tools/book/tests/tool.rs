@@ -36,4 +36,5 @@ fn failures() {
     check_failure(&[], b"", 2, "book make [FILE]");
     check_failure(&["compare", "one"], b"", 2, "book compare A B");
     check_failure(&["compare", "one", "two", "three"], b"", 2, "book compare A B");
+    check_failure(&["decode", "1", "2"], b"", 2, "book decode BEGIN END INFO [HEX..]");
 }
