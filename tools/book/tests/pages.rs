@@ -3,7 +3,8 @@
 mod common;
 
 use common::{folder, words};
-use stacklines::{translate, NO_LIMIT};
+use stacklines::book::Book;
+use stacklines::{decode_x64, translate, NO_LIMIT};
 use std::fs;
 
 /// The indented blocks of a page.
@@ -39,4 +40,15 @@ fn books(name: &str) -> usize {
 #[test]
 fn books_of_pages_have_their_lines() {
     assert_eq!([books("README.md"), books("docs/BOOK.md")], [4, 1]);
+}
+
+/// The unwind bytes of BOOK.md have the body of the book that it shows.
+#[test]
+fn unwind_bytes_of_the_page() {
+    let blocks = blocks(&fs::read_to_string(folder("docs").join("BOOK.md")).unwrap());
+    let book = book_form::make(blocks.iter().find(|block| is_book(block)).unwrap()).unwrap();
+    let bytes: Vec<Vec<u8>> = blocks.iter().filter_map(|block| book_form::hex(block).ok()).collect();
+    assert_eq!(bytes.len(), 1);
+    let function = decode_x64(&bytes[0], 0x1000, 0x1040, 0x5000).unwrap();
+    assert_eq!(Book::X64(vec![function]).words().unwrap(), words(&book));
 }
