@@ -9,10 +9,12 @@ pub mod files;
 pub mod gen;
 pub mod names;
 pub mod pdb;
+pub mod records;
 pub mod rng;
 pub mod run;
 pub mod shrink;
 pub mod tally;
+pub mod unwind_info;
 pub mod words;
 pub mod x64;
 

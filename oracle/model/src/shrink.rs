@@ -38,6 +38,32 @@ pub fn shrink(book: &[u32], shows: &dyn Fn(&[u32]) -> bool) -> Vec<u32> {
     }
 }
 
+/// The same for bytes: stretches are cut out, then single bytes are made smaller.
+pub fn shrink_bytes(bytes: &[u8], shows: &dyn Fn(&[u8]) -> bool) -> Vec<u8> {
+    let mut small = bytes.to_vec();
+    for length in [1024, 256, 64, 16, 8, 6, 4, 2, 1] {
+        let mut at = small.len();
+        while at >= length {
+            let cut = [&small[..at - length], &small[at..]].concat();
+            if shows(&cut) {
+                small = cut;
+            }
+            at = small.len().min(at - 1);
+        }
+    }
+    for at in 0..small.len() {
+        let byte = small[at];
+        for smaller in [0, 1, byte & 15, byte / 2].into_iter().filter(|&b| b < byte) {
+            small[at] = smaller;
+            if shows(&small) {
+                break;
+            }
+            small[at] = byte;
+        }
+    }
+    small
+}
+
 impl Shrinker<'_> {
     fn keeps(&mut self, kind: u32, parts: &[Vec<u32>]) -> bool {
         self.tries += 1;

@@ -36,6 +36,11 @@ impl Tally {
         due.iter().filter(|what| !self.counts.contains_key(**what)).copied().collect()
     }
 
+    /// The names that occurred.
+    pub fn names(&self) -> impl Iterator<Item = &'static str> + '_ {
+        self.counts.keys().copied()
+    }
+
     /// Prints the table, three to a line.
     pub fn print(&self) {
         let cells: Vec<String> = self.counts.iter().map(|(what, n)| format!("{n:>9} {what:<36}")).collect();

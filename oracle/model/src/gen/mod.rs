@@ -4,6 +4,7 @@ mod arm64;
 mod damage;
 mod dwarf;
 mod pdb;
+pub mod unwind_info;
 mod x64;
 
 use crate::book::{assemble, MOST_WORDS, WORK};
