@@ -1,5 +1,7 @@
 //! The port's call, with a fence of known bytes on both sides of every buffer.
 
+pub mod decode;
+
 use model::book::WORK;
 use model::gen::Case;
 use model::rng::Rng;
@@ -62,6 +64,11 @@ impl<T: Copy + PartialEq> Fenced<T> {
         self.inside().len()
     }
 
+    fn inside_mut(&mut self) -> &mut [T] {
+        let end = self.all.len() - FENCE;
+        &mut self.all[FENCE..end]
+    }
+
     fn pointer(&mut self) -> *mut T {
         self.all[FENCE..].as_mut_ptr()
     }
@@ -89,6 +96,12 @@ pub fn filling(seed: u64, len: usize) -> Vec<u8> {
     }
     bytes.truncate(len);
     bytes
+}
+
+/// Words that stand in a buffer before the call.
+pub fn words_before(seed: u64, len: usize) -> Vec<u32> {
+    let mut rng = Rng::new(seed);
+    (0..len).map(|_| rng.word()).collect()
 }
 
 /// What stands in the counts before the call.
