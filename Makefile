@@ -25,7 +25,7 @@ help:
 	@echo 'make clean                remove what was built'
 	@echo
 	@echo 'RUST_SRC is the Rust source, a checkout or a folder of its files, $(RUST_SRC); without it its tests are skipped.'
-	@echo 'REAL is a folder with books of real files for bench and profile; without it oracle/real has a sample.'
+	@echo 'REAL is a folder with books and unwind info of real files for bench and profile; without it oracle/real has a sample.'
 
 run:
 	@sh tools/run '$(BOOK)'

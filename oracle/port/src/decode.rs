@@ -20,7 +20,7 @@ extern "C" {
 }
 
 /// The call, without fences; `lead` is begin, end and info address.
-#[inline(never)]
+#[inline]
 pub fn decode(bytes: &[u8], lead: [u32; 3], body: &mut [u32], count: &mut [u64]) -> u32 {
     let [begin, end, address] = lead;
     let (body_len, count_len) = (body.len(), count.len());
