@@ -5,6 +5,7 @@ use crate::book::{assemble, bodies};
 use std::ops::Range;
 
 const MOST_TRIES: usize = 40_000;
+const MOST_TRIES_OF_BYTES: usize = 2_000;
 /// How many stretches are cut out at once.
 const BLOCKS: [usize; 4] = [64, 16, 4, 1];
 /// How many words before a stretch are tried as its count.
@@ -41,21 +42,26 @@ pub fn shrink(book: &[u32], shows: &dyn Fn(&[u32]) -> bool) -> Vec<u32> {
 /// The same for bytes: stretches are cut out, then single bytes are made smaller.
 pub fn shrink_bytes(bytes: &[u8], shows: &dyn Fn(&[u8]) -> bool) -> Vec<u8> {
     let mut small = bytes.to_vec();
-    for length in [1024, 256, 64, 16, 8, 6, 4, 2, 1] {
+    let mut tries = 0;
+    let mut keeps = |bytes: &[u8]| {
+        tries += 1;
+        tries <= MOST_TRIES_OF_BYTES && shows(bytes)
+    };
+    for length in [4096, 1024, 256, 64, 16, 8, 6, 4, 2, 1] {
         let mut at = small.len();
         while at >= length {
             let cut = [&small[..at - length], &small[at..]].concat();
-            if shows(&cut) {
+            if keeps(&cut) {
                 small = cut;
             }
-            at = small.len().min(at - 1);
+            at = small.len().min(at - length.div_ceil(4));
         }
     }
     for at in 0..small.len() {
         let byte = small[at];
         for smaller in [0, 1, byte & 15, byte / 2].into_iter().filter(|&b| b < byte) {
             small[at] = smaller;
-            if shows(&small) {
+            if keeps(&small) {
                 break;
             }
             small[at] = byte;
