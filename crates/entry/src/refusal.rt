@@ -29,3 +29,9 @@ pub const LONG: u32 = 8;
 
 // the text buffer's rest is too short for it
 pub const ROOM: u32 = 9;
+
+// a part of the unwind bytes has another version than 1
+pub const VERSION: u32 = 10;
+
+// the unwind bytes end inside a part
+pub const TRUNCATED: u32 = 11;

@@ -1,0 +1,71 @@
+-- `put_part`: the info word by word, its count last (`info-put`).
+use Rattle.unwind_info.specs.UnwindInfo.{codesOf}
+use Rattle.unwind_info.proofs.Loops.{info-put}
+use borrow.Author.Needs.{needs}
+use Rattle.fill.proofs.put_word.Reads as put-word-reads
+use Rattle.fill.proofs.set_word.Reads as set-word-reads
+use Rattle.unwind_info.proofs.part.frame_offset.Reads as frame-offset-reads
+use Rattle.unwind_info.proofs.part.frame_register.Reads as frame-register-reads
+use Rattle.unwind_info.proofs.part.slot_count.Reads as slot-count-reads
+use Rattle.unwind_info.proofs.write.put_ops.Reads as put-ops-reads
+use Rattle.unwind_info.proofs.write.put_part.Statement.{statement}
+use Rattle.unwind_info.proofs.write.put_part.Tie as tie
+
+frame-register-requires : tie.Need-frame-register-requires
+frame-register-requires c κs = search needs
+
+put-word-requires : tie.Need-put-word-requires
+put-word-requires c κs = search needs
+
+frame-offset-requires : tie.Need-frame-offset-requires
+frame-offset-requires c κs = search needs
+
+put-word-requires-2 : tie.Need-put-word-requires-2
+put-word-requires-2 c κs = search needs
+
+put-word-requires-3 : tie.Need-put-word-requires-3
+put-word-requires-3 c κs = search needs
+
+slot-count-requires : tie.Need-slot-count-requires
+slot-count-requires c κs = search needs
+
+put-ops-requires : tie.Need-put-ops-requires
+put-ops-requires c κs = search needs
+
+cast-set-word : tie.Need-cast-set-word
+cast-set-word c = search needs
+
+set-word-requires : tie.Need-set-word-requires
+set-word-requires c κs = search needs
+
+same-length : tie.Need-same-length
+same-length c = search needs
+
+returns : tie.Need-returns
+unfolding codesOf
+returns c =
+    let args = c .before .before .before .before .before .before .before .before .before .before .before .before .before .before .before .before .before .before .before .before .before .before .before .before .before .before .args in
+    let put-word = c .before .before .before .before .before .before .before .before .before .before .before .before .before .before .before .before .before .before .before .before .before .put-word in
+    let put-word2 = c .before .before .before .before .before .before .before .before .before .before .before .before .before .before .before .before .put-word2 in
+    let put-word3 = c .before .before .before .before .before .before .before .before .before .before .before .before .put-word3 in
+    let slot-count = c .before .before .before .before .before .before .before .before .slot-count in
+    let frame-register = c .before .before .before .before .before .before .before .before .before .before .before .before .before .before .before .before .before .before .before .before .before .before .before .frame-register in
+    let put-ops = c .before .before .before .before .before .before .before .put-ops in
+    let frame-offset = c .before .before .before .before .before .before .before .before .before .before .before .before .before .before .before .before .before .frame-offset in
+    info-put (args .part .now) (put-word .ensures) (put-word2 .ensures) (put-word3 .ensures) (rw (slot-count .ensures .0, frame-register .ensures) at (put-ops .ensures .0)) (c .before .before .set-word .ensures) (frame-register .ensures) (frame-offset .ensures) (rw (slot-count .ensures .0, frame-register .ensures) at (put-ops .ensures .1 .0))
+
+pub put-part-spec : {M : Type 1} → statement M
+put-part-spec =
+    tie.close
+    (tie.spec
+    frame-register-requires
+    put-word-requires
+    frame-offset-requires
+    put-word-requires-2
+    put-word-requires-3
+    slot-count-requires
+    put-ops-requires
+    cast-set-word
+    set-word-requires
+    same-length
+    returns)

@@ -1,0 +1,199 @@
+-- The forms that the code's loops walk: a code with the slots that it takes, the codes and parts that are left. And what the check of the headers gives.
+use mathlib.Core.Path.{_≡_, refl, sym, ap, _∙_}
+use mathlib.Core.Bool.{Bool, true, false, cond, _&&_, false≢true}
+use mathlib.Core.List.{List, [], _∷_, _++_}
+use Prim.Native.Nat.{ℕ, zero, suc, _+_, _-_, _*_, _/_, _%_, _≤_, _<_}
+use native.Mathlib.Omega.{arith}
+use lib.ListN.{length, getD, drop, length-append, length-drop}
+use lib.Seq.{getD-drop, drop-drop, drop-length}
+use lib.Dec.{T, eqb, ltb, leb}
+use borrow.Author.Tests.{leb-true, leb-false, le-leb, lt-leb, le-ltb, ltb-true, ltb-false, eq-eqb, ne-eqb, eqb-true, eqb-false}
+use Rattle.text.specs.Tests.{one-less}
+use Rattle.unwind_info.specs.declared.UnwindCode.{UnwindCode}
+use Rattle.unwind_info.specs.declared.Checked.{Checked}
+use Rattle.unwind_info.specs.UnwindInfo.{byte, slotAt, longAt, slotCount, partSize, code, undecodable, codes, codeAt, codesIn, codesOf, opWords}
+use Rattle.unwind_info.specs.UnwindInfo.{infoWords, partsIn, parts, infosWords, partNumber, firstRefused, countNumber, x64Number}
+
+-- ---- a code by its place
+
+slot-drop : (bs : List ℕ) (i j : ℕ) → slotAt (drop i bs) j ≡ slotAt bs (i + j)
+unfolding slotAt
+slot-drop bs i j = let e : i + (j + 1) ≡ i + j + 1 = omega arith in rw (getD-drop i bs j 0, getD-drop i bs (j + 1) 0, e)
+
+long-drop : (bs : List ℕ) (i j : ℕ) → longAt (drop i bs) j ≡ longAt bs (i + j)
+unfolding longAt
+long-drop bs i j = let e : i + (j + 2) ≡ i + j + 2 = omega arith in rw (slot-drop bs i j, slot-drop bs i (j + 2), e)
+
+pub code-drop : (f : ℕ) (bs : List ℕ) (i : ℕ)
+    → codeAt f (drop i bs) ≡ getD (codes f (byte bs (i + 1) / 16) (slotAt bs (i + 2)) (longAt bs (i + 2))) (byte bs (i + 1) % 16) undecodable
+unfolding codeAt
+code-drop f bs i = rw (getD-drop i bs 1 0, slot-drop bs i 2, long-drop bs i 2)
+
+-- a code that the page does not name
+pub no-code : (f i near far c : ℕ) → (c ≡ 0 → ⊥) → (c ≡ 1 → ⊥) → (c ≡ 2 → ⊥) → (c ≡ 3 → ⊥) → (c ≡ 4 → ⊥) → (c ≡ 5 → ⊥) → (c ≡ 8 → ⊥) → (c ≡ 9 → ⊥) → (c ≡ 10 → ⊥)
+    → getD (codes f i near far) c undecodable ≡ undecodable
+unfolding codes
+no-code f i near far zero h _ _ _ _ _ _ _ _ = absurd (h refl)
+no-code f i near far (suc zero) _ h _ _ _ _ _ _ _ = absurd (h refl)
+no-code f i near far (suc (suc zero)) _ _ h _ _ _ _ _ _ = absurd (h refl)
+no-code f i near far (suc (suc (suc zero))) _ _ _ h _ _ _ _ _ = absurd (h refl)
+no-code f i near far (suc (suc (suc (suc zero)))) _ _ _ _ h _ _ _ _ = absurd (h refl)
+no-code f i near far (suc (suc (suc (suc (suc zero))))) _ _ _ _ _ h _ _ _ = absurd (h refl)
+no-code f i near far (suc (suc (suc (suc (suc (suc zero)))))) _ _ _ _ _ _ _ _ _ = refl
+no-code f i near far (suc (suc (suc (suc (suc (suc (suc zero))))))) _ _ _ _ _ _ _ _ _ = refl
+no-code f i near far (suc (suc (suc (suc (suc (suc (suc (suc zero)))))))) _ _ _ _ _ _ h _ _ = absurd (h refl)
+no-code f i near far (suc (suc (suc (suc (suc (suc (suc (suc (suc zero))))))))) _ _ _ _ _ _ _ h _ = absurd (h refl)
+no-code f i near far (suc (suc (suc (suc (suc (suc (suc (suc (suc (suc zero)))))))))) _ _ _ _ _ _ _ _ h = absurd (h refl)
+no-code f i near far (suc (suc (suc (suc (suc (suc (suc (suc (suc (suc (suc c))))))))))) _ _ _ _ _ _ _ _ _ = refl
+
+-- ---- the codes of a part
+
+-- whether a code is defined and has its slots within n
+abbrev pub within : ℕ → UnwindCode → Bool
+within n c = leb 1 (c .slots) && leb (c .slots) n
+
+-- where n slots are left: one that is not is undecodable and takes all of them
+abbrev pub taken : ℕ → UnwindCode → UnwindCode
+taken n c = cond (within n c) c (code n 8 0 0)
+
+and-left : (a b : Bool) → (a && b) ≡ true → a ≡ true
+and-left true b e = refl
+and-left false b e = e
+
+and-right : (a b : Bool) → (a && b) ≡ true → b ≡ true
+and-right true b e = e
+and-right false b e = absurd (false≢true e)
+
+pub within-slots : (n : ℕ) (c : UnwindCode) → within n c ≡ true → (1 ≤ c .slots) × (c .slots ≤ n)
+within-slots n c e = (leb-true 1 (c .slots) (and-left (leb 1 (c .slots)) _ e), leb-true (c .slots) n (and-right (leb 1 (c .slots)) _ e))
+
+pub taken-slots : (n : ℕ) (c : UnwindCode) → 0 < n → (1 ≤ taken n c .slots) × (taken n c .slots ≤ n)
+taken-slots n c h = go (within n c) refl
+  where
+    go : (t : Bool) → within n c ≡ t → (1 ≤ cond t c (code n 8 0 0) .slots) × (cond t c (code n 8 0 0) .slots ≤ n)
+    go true e = within-slots n c e
+    go false e = (omega arith, omega arith)
+
+module _ (f : ℕ) where
+  -- with room enough the bound does not matter
+  codes-same : (k m n : ℕ) (bs : List ℕ) → n ≤ k → n ≤ m → codesIn k f n bs ≡ codesIn m f n bs
+  unfolding codesIn
+  codes-same zero zero n bs p q = refl
+  codes-same zero (suc m) zero bs p q = refl
+  codes-same zero (suc m) (suc n) bs p q = absurd (omega arith)
+  codes-same (suc k) zero zero bs p q = refl
+  codes-same (suc k) zero (suc n) bs p q = absurd (omega arith)
+  codes-same (suc k) (suc m) zero bs p q = refl
+  codes-same (suc k) (suc m) (suc n) bs p q =
+      go (within (suc n) c) refl (λ h. codes-same k m (suc n - c .slots) (drop (2 * c .slots) bs) (omega arith) (omega arith))
+    where
+      c : UnwindCode
+      c = codeAt f bs
+
+      go : (t : Bool) → within (suc n) c ≡ t
+          → (1 ≤ c .slots → codesIn k f (suc n - c .slots) (drop (2 * c .slots) bs) ≡ codesIn m f (suc n - c .slots) (drop (2 * c .slots) bs))
+          → cond t (c ∷ codesIn k f (suc n - c .slots) (drop (2 * c .slots) bs)) (undecodable ∷ [])
+          ≡ cond t (c ∷ codesIn m f (suc n - c .slots) (drop (2 * c .slots) bs)) (undecodable ∷ [])
+      go true e ih = ap (λ (l : List UnwindCode). c ∷ l) (ih (within-slots (suc n) c e .0))
+      go false e ih = refl
+
+  -- what is left behind the first code
+  abbrev pub behind : ℕ → List ℕ → List UnwindCode
+  behind n bs = codesIn (n - taken n (codeAt f bs) .slots) f (n - taken n (codeAt f bs) .slots) (drop (2 * taken n (codeAt f bs) .slots) bs)
+
+  pub record First (n : ℕ) (bs : List ℕ) : Type 0 where
+    pub words : opWords (codesIn n f n bs) ≡ taken n (codeAt f bs) .kind ∷ taken n (codeAt f bs) .register ∷ taken n (codeAt f bs) .value ∷ opWords (behind n bs)
+    pub count : length (codesIn n f n bs) ≡ suc (length (behind n bs))
+
+  -- the first code, and what is left behind it
+  pub codes-first : (n : ℕ) (bs : List ℕ) → 0 < n → First n bs
+  unfolding codesIn opWords
+  codes-first zero bs h = absurd (omega arith)
+  codes-first (suc n) bs h = go (within (suc n) c) refl
+    where
+      c : UnwindCode
+      c = codeAt f bs
+
+      go : (t : Bool) → within (suc n) c ≡ t → First (suc n) bs
+      go true e =
+          let s = within-slots (suc n) c e in
+          let same = codes-same n (suc n - c .slots) (suc n - c .slots) (drop (2 * c .slots) bs) (omega (arith, s)) (omega arith) in
+          record {
+            words = rw e (ap (λ (l : List UnwindCode). c .kind ∷ c .register ∷ c .value ∷ opWords l) same);
+            count = rw e (ap (λ (l : List UnwindCode). suc (length l)) same);
+          }
+      go false e =
+          let z : suc n - suc n ≡ 0 = omega arith in
+          record { words = rw (e, z) refl; count = rw (e, z) refl }
+
+-- there are no more codes than slots
+pub codes-few : (k f n : ℕ) (bs : List ℕ) → length (codesIn k f n bs) ≤ n
+unfolding codesIn
+codes-few zero f n bs = omega arith
+codes-few (suc k) f zero bs = omega arith
+codes-few (suc k) f (suc n) bs = go (within (suc n) c) refl (codes-few k f (suc n - c .slots) (drop (2 * c .slots) bs))
+  where
+    c : UnwindCode
+    c = codeAt f bs
+
+    go : (t : Bool) → within (suc n) c ≡ t → length (codesIn k f (suc n - c .slots) (drop (2 * c .slots) bs)) ≤ suc n - c .slots
+        → length (cond t (c ∷ codesIn k f (suc n - c .slots) (drop (2 * c .slots) bs)) (undecodable ∷ [])) ≤ suc n
+    go true e ih = omega (arith, ih, within-slots (suc n) c e)
+    go false e ih = omega arith
+
+ops-length : (cs : List UnwindCode) → length (opWords cs) ≡ 3 * length cs
+unfolding opWords
+ops-length [] = refl
+ops-length (c ∷ cs) = omega (arith, ops-length cs)
+
+-- an info has three words, and three for each slot at most
+pub info-length : (p : List ℕ) → length (infoWords p) ≤ 3 + 3 * slotCount p
+unfolding infoWords codesOf
+info-length p = omega (arith, ops-length (codesOf p), codes-few (slotCount p) (byte p 3 % 16) (slotCount p) (drop 4 p))
+
+-- ---- the parts
+
+parts-same : (k m : ℕ) (bs : List ℕ) → length bs ≤ k → length bs ≤ m → partsIn k bs ≡ partsIn m bs
+unfolding partsIn
+parts-same zero zero bs p q = refl
+parts-same zero (suc m) [] p q = refl
+parts-same zero (suc m) (b ∷ bs) p q = absurd (omega arith)
+parts-same (suc k) zero [] p q = refl
+parts-same (suc k) zero (b ∷ bs) p q = absurd (omega arith)
+parts-same (suc k) (suc m) [] p q = refl
+parts-same (suc k) (suc m) (b ∷ bs) p q =
+    let s = length-drop (partSize (b ∷ bs)) (b ∷ bs) in
+    ap (λ (l : List (List ℕ)). (b ∷ bs) ∷ l) (parts-same k m (drop (partSize (b ∷ bs)) (b ∷ bs)) (omega (arith, s)) (omega (arith, s)))
+
+-- the first part, and those behind it
+pub parts-first : (bs : List ℕ) → 0 < length bs → parts bs ≡ bs ∷ parts (drop (partSize bs) bs)
+unfolding partsIn
+parts-first [] h = absurd (omega arith)
+parts-first (b ∷ bs) h =
+    let s = length-drop (partSize (b ∷ bs)) (b ∷ bs) in
+    ap (λ (l : List (List ℕ)). (b ∷ bs) ∷ l)
+    (parts-same (length bs) (length (drop (partSize (b ∷ bs)) (b ∷ bs))) (drop (partSize (b ∷ bs)) (b ∷ bs)) (omega (arith, s)) (omega arith))
+
+pub parts-none : parts [] ≡ []
+unfolding partsIn
+parts-none = refl
+
+-- a part that is not turned away lies within the bytes
+pub part-whole : (bs : List ℕ) → partNumber bs ≡ 0 → partSize bs ≤ length bs
+unfolding partNumber
+part-whole bs e = go (eqb (byte bs 0 % 8) 1) (ltb (length bs) (partSize bs)) refl e
+  where
+    go : (v t : Bool) → ltb (length bs) (partSize bs) ≡ t → _≡_ {A = ℕ} (cond v (cond t 11 0) 10) 0 → partSize bs ≤ length bs
+    go true true p q = absurd (omega (arith, q))
+    go true false p q = ltb-false (length bs) (partSize bs) p
+    go false t p q = absurd (omega (arith, q))
+
+-- ---- the check of the headers
+
+-- what it gives
+pub record Checks (bs : List ℕ) (r : Checked) : Type 0 where
+  pub number-is : r .number ≡ x64Number bs
+  pub parts-is : r .number ≡ 0 → r .parts ≡ length (parts bs)
+  pub few : r .number ≡ 0 → r .parts ≤ 32
+  pub slots-few : r .number ≡ 0 → r .slots ≤ 8160
+  pub most : r .number ≡ 0 → length (infosWords (parts bs)) ≤ 3 * r .parts + 3 * r .slots

@@ -1,0 +1,2 @@
+pub mod UnwindInfo
+pub mod Index
