@@ -1,14 +1,15 @@
 -- The forms that the code's loops walk: a code with the slots that it takes, the codes and parts that are left. And what the check of the headers gives.
 use mathlib.Core.Path.{_≡_, refl, sym, ap, _∙_}
-use mathlib.Core.Bool.{Bool, true, false, cond, _&&_, false≢true}
+use mathlib.Core.Bool.{Bool, true, false, cond, _&&_, _||_, false≢true}
 use mathlib.Core.List.{List, [], _∷_, _++_}
 use Prim.Native.Nat.{ℕ, zero, suc, _+_, _-_, _*_, _/_, _%_, _≤_, _<_}
 use native.Mathlib.Omega.{arith}
-use lib.ListN.{length, getD, drop, length-append, length-drop}
+use native.Mathlib.Decide.{decLt}
+use lib.ListN.{length, getD, drop, length-append, length-drop, List·getD-eq-default}
 use lib.Seq.{getD-drop, drop-drop, drop-length}
-use lib.Dec.{T, eqb, ltb, leb}
+use lib.Dec.{T, eqb, ltb, leb, eqb→eq}
 use borrow.Author.Tests.{leb-true, leb-false, le-leb, lt-leb, le-ltb, ltb-true, ltb-false, eq-eqb, ne-eqb, eqb-true, eqb-false}
-use Rattle.text.specs.Tests.{one-less}
+use Rattle.text.specs.Tests.{and-l, and-r, at, Others, others}
 use Rattle.unwind_info.specs.declared.UnwindCode.{UnwindCode}
 use Rattle.unwind_info.specs.declared.Checked.{Checked}
 use Rattle.unwind_info.specs.UnwindInfo.{byte, slotAt, longAt, slotCount, partSize, code, undecodable, codes, codeAt, codesIn, codesOf, opWords}
@@ -29,22 +30,31 @@ pub code-drop : (f : ℕ) (bs : List ℕ) (i : ℕ)
 unfolding codeAt
 code-drop f bs i = rw (getD-drop i bs 1 0, slot-drop bs i 2, long-drop bs i 2)
 
--- a code that the page does not name
-pub no-code : (f i near far c : ℕ) → (c ≡ 0 → ⊥) → (c ≡ 1 → ⊥) → (c ≡ 2 → ⊥) → (c ≡ 3 → ⊥) → (c ≡ 4 → ⊥) → (c ≡ 5 → ⊥) → (c ≡ 8 → ⊥) → (c ≡ 9 → ⊥) → (c ≡ 10 → ⊥)
-    → getD (codes f i near far) c undecodable ≡ undecodable
+-- the codes that the page names, up to 10
+abbrev named : ℕ → Bool
+named c = ltb c 6 || leb 8 c
+
+abbrev isUndecodable : UnwindCode → Bool
+isUndecodable u = eqb (u .slots) 0 && (eqb (u .kind) 8 && (eqb (u .register) 0 && eqb (u .value) 0))
+
+is-undecodable : (u : UnwindCode) → T (isUndecodable u) → u ≡ undecodable
+is-undecodable u h =
+    let s : u .slots ≡ 0 = eqb→eq (u .slots) 0 (search (and-l, and-r)) in
+    let k : u .kind ≡ 8 = eqb→eq (u .kind) 8 (search (and-l, and-r)) in
+    let r : u .register ≡ 0 = eqb→eq (u .register) 0 (search (and-l, and-r)) in
+    let v : u .value ≡ 0 = eqb→eq (u .value) 0 (search (and-l, and-r)) in
+    rw (s, k, r, v)
+
+-- a code that it does not name, as the last arm of a `match` is told it
+pub no-code : (f i near far c : ℕ) → Others named 11 c → getD (codes f i near far) c undecodable ≡ undecodable
 unfolding codes
-no-code f i near far zero h _ _ _ _ _ _ _ _ = absurd (h refl)
-no-code f i near far (suc zero) _ h _ _ _ _ _ _ _ = absurd (h refl)
-no-code f i near far (suc (suc zero)) _ _ h _ _ _ _ _ _ = absurd (h refl)
-no-code f i near far (suc (suc (suc zero))) _ _ _ h _ _ _ _ _ = absurd (h refl)
-no-code f i near far (suc (suc (suc (suc zero)))) _ _ _ _ h _ _ _ _ = absurd (h refl)
-no-code f i near far (suc (suc (suc (suc (suc zero))))) _ _ _ _ _ h _ _ _ = absurd (h refl)
-no-code f i near far (suc (suc (suc (suc (suc (suc zero)))))) _ _ _ _ _ _ _ _ _ = refl
-no-code f i near far (suc (suc (suc (suc (suc (suc (suc zero))))))) _ _ _ _ _ _ _ _ _ = refl
-no-code f i near far (suc (suc (suc (suc (suc (suc (suc (suc zero)))))))) _ _ _ _ _ _ h _ _ = absurd (h refl)
-no-code f i near far (suc (suc (suc (suc (suc (suc (suc (suc (suc zero))))))))) _ _ _ _ _ _ _ h _ = absurd (h refl)
-no-code f i near far (suc (suc (suc (suc (suc (suc (suc (suc (suc (suc zero)))))))))) _ _ _ _ _ _ _ _ h = absurd (h refl)
-no-code f i near far (suc (suc (suc (suc (suc (suc (suc (suc (suc (suc (suc c))))))))))) _ _ _ _ _ _ _ _ _ = refl
+no-code f i near far c h = elim (decLt c 11) [
+  | yes l ↦ is-undecodable (entry c) (rw (others named 11 c h l) at (at 11 (λ (n : ℕ). named n || isUndecodable (entry n)) tt c l))
+  | no l ↦ List·getD-eq-default (codes f i near far) undecodable {n = c} (omega arith)
+]
+  where
+    entry : ℕ → UnwindCode
+    entry n = getD (codes f i near far) n undecodable
 
 -- ---- the codes of a part
 

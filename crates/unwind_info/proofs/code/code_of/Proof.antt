@@ -91,7 +91,8 @@ returns-9 c = rw (c .before .match .keys9) (c .push-machframe .ensures)
 returns-10 : tie.Need-returns-10
 returns-10 c =
     let args = c .before .before .before .args in
-    c .undefined .ensures ∙ sym (no-code (args .frame) (args .info) (slotAt (args .bytes .now) (args .i)) (longAt (args .bytes .now) (args .i)) (args .code) (c .before .match .rest .0 .0 .0 .0 .0 .0 .0 .0 .1) (c .before .match .rest .0 .0 .0 .0 .0 .0 .0 .1) (c .before .match .rest .0 .0 .0 .0 .0 .0 .1) (c .before .match .rest .0 .0 .0 .0 .0 .1) (c .before .match .rest .0 .0 .0 .0 .1) (c .before .match .rest .0 .0 .0 .1) (c .before .match .rest .0 .0 .1) (c .before .match .rest .0 .1) (c .before .match .rest .1))
+    c .undefined .ensures ∙ sym
+    (no-code (args .frame) (args .info) (slotAt (args .bytes .now) (args .i)) (longAt (args .bytes .now) (args .i)) (args .code) (c .before .match .rest))
 
 pub code-of-spec : {M : Type 1} → statement M
 code-of-spec =
