@@ -28,10 +28,10 @@ pub fn put_word(out: &mut [u32], at: usize, w: u32) -> usize
 }
 
 // Stores a word over another one; past the end nothing.
-pub fn set_word(out: &mut [u32], at: usize, w: u32)
-    ensures { λ r. ⌜ now (out .exit) ≡ set (now (out .entry)) at w ⌝ }
+pub fn set_word(out: &mut [u32], at: usize, word: u32)
+    ensures { λ r. ⌜ now (out .exit) ≡ set (now (out .entry)) at word ⌝ }
 {
     if at < out.len() {
-        out[at] = w;
+        out[at] = word;
     }
 }

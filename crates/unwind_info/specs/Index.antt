@@ -8,11 +8,11 @@ use native.Mathlib.Decide.{decLt}
 use lib.ListN.{length, getD, drop, length-append, length-drop, List·getD-eq-default}
 use lib.Seq.{getD-drop, drop-drop, drop-length}
 use lib.Dec.{T, eqb, ltb, leb, eqb→eq}
-use borrow.Author.Tests.{leb-true, leb-false, le-leb, lt-leb, le-ltb, ltb-true, ltb-false, eq-eqb, ne-eqb, eqb-true, eqb-false}
+use borrow.Author.Tests.{leb-true, lt-ltb, le-ltb, ltb-false, eq-eqb, ne-eqb}
 use Rattle.text.specs.Tests.{and-l, and-r, at, Others, others}
 use Rattle.unwind_info.specs.declared.UnwindCode.{UnwindCode}
 use Rattle.unwind_info.specs.declared.Checked.{Checked}
-use Rattle.unwind_info.specs.UnwindInfo.{byte, slotAt, longAt, slotCount, partSize, code, undecodable, codes, codeAt, codesIn, codesOf, opWords}
+use Rattle.unwind_info.specs.UnwindInfo.{byte, slotAt, longAt, slotCount, partSize, code, undecodable, codes, codeAt, within, codesIn, codesOf, opWords}
 use Rattle.unwind_info.specs.UnwindInfo.{infoWords, partsIn, parts, infosWords, partNumber, firstRefused, countNumber, x64Number}
 
 -- ---- a code by its place
@@ -57,10 +57,6 @@ no-code f i near far c h = elim (decLt c 11) [
     entry n = getD (codes f i near far) n undecodable
 
 -- ---- the codes of a part
-
--- whether a code is defined and has its slots within n
-abbrev pub within : ℕ → UnwindCode → Bool
-within n c = leb 1 (c .slots) && leb (c .slots) n
 
 -- where n slots are left: one that is not is undecodable and takes all of them
 abbrev pub taken : ℕ → UnwindCode → UnwindCode
@@ -151,7 +147,7 @@ codes-few (suc k) f (suc n) bs = go (within (suc n) c) refl (codes-few k f (suc 
     go true e ih = omega (arith, ih, within-slots (suc n) c e)
     go false e ih = omega arith
 
-ops-length : (cs : List UnwindCode) → length (opWords cs) ≡ 3 * length cs
+pub ops-length : (cs : List UnwindCode) → length (opWords cs) ≡ 3 * length cs
 unfolding opWords
 ops-length [] = refl
 ops-length (c ∷ cs) = omega (arith, ops-length cs)
@@ -197,6 +193,19 @@ part-whole bs e = go (eqb (byte bs 0 % 8) 1) (ltb (length bs) (partSize bs)) ref
     go true true p q = absurd (omega (arith, q))
     go true false p q = ltb-false (length bs) (partSize bs) p
     go false t p q = absurd (omega (arith, q))
+
+-- 10, 11 and 0, by the version v and the size n that were read
+pub is-version : {v : ℕ} (bs : List ℕ) → v ≡ byte bs 0 → (v % 8 ≡ 1 → ⊥) → 10 ≡ partNumber bs
+unfolding partNumber
+is-version {v} bs e h = rw (← e, ne-eqb (v % 8) 1 h)
+
+pub is-short : {v n : ℕ} (bs : List ℕ) → v ≡ byte bs 0 → n ≡ partSize bs → v % 8 ≡ 1 → length bs < n → 11 ≡ partNumber bs
+unfolding partNumber
+is-short {v} {n} bs e s h l = rw (← e, eq-eqb (v % 8) 1 h, lt-ltb (length bs) (partSize bs) (omega (arith, s, l)))
+
+pub is-whole : {v n : ℕ} (bs : List ℕ) → v ≡ byte bs 0 → n ≡ partSize bs → v % 8 ≡ 1 → n ≤ length bs → 0 ≡ partNumber bs
+unfolding partNumber
+is-whole {v} {n} bs e s h l = rw (← e, eq-eqb (v % 8) 1 h, le-ltb (length bs) (partSize bs) (omega (arith, s, l)))
 
 -- ---- the check of the headers
 

@@ -11,9 +11,8 @@ use lib.Dec.{T, eqb, ltb, leb}
 use borrow.Author.Tests.{eqb-true}
 use Rattle.fill.specs.Fill.{Fill}
 use Rattle.unwind_info.specs.declared.UnwindCode.{UnwindCode}
-use Rattle.unwind_info.specs.UnwindInfo.{byte, slotAt, longAt, version, slotCount, partSize, code, undecodable, codes, codeAt, codesIn, codesOf, opWords}
+use Rattle.unwind_info.specs.UnwindInfo.{byte, slotAt, longAt, version, slotCount, partSize, code, undecodable, codes, codeAt, within, codesIn, codesOf, opWords}
 use Rattle.unwind_info.specs.UnwindInfo.{allocLarge, infoWords, partsIn, parts, infosWords, x64Body, partNumber, firstRefused, countNumber, x64Number, decoded}
-use Rattle.unwind_info.specs.Index.{within}
 
 -- ---- alike
 

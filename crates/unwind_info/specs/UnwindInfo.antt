@@ -1,6 +1,6 @@
 -- UNWIND_INFO of an x64 image to the words of an x64 body (document 02, request 1), by Microsoft's page on x64 exception handling, version 1.
 -- A byte that is missing reads 0.
-use mathlib.Core.Bool.{cond, _&&_}
+use mathlib.Core.Bool.{Bool, cond, _&&_}
 use mathlib.Core.List.{List, [], _∷_, _++_}
 use Prim.Native.Nat.{ℕ, zero, suc, _+_, _-_, _*_, _/_, _%_}
 use lib.ListN.{length, getD, drop}
@@ -81,13 +81,17 @@ codes f i near far =
 unfoldable pub codeAt : ℕ → List ℕ → UnwindCode
 codeAt f bs = getD (codes f (byte bs 1 / 16) (slotAt bs 2) (longAt bs 2)) (byte bs 1 % 16) undecodable
 
+-- it is defined, and its slots do not run past n
+abbrev pub within : ℕ → UnwindCode → Bool
+within n c = leb 1 (c .slots) && leb (c .slots) n
+
 -- the codes of n slots, from the first of them on; an undecodable one is the last. Each has a slot, so that there are at most k, from k = n on
 unfoldable pub codesIn : ℕ → ℕ → ℕ → List ℕ → List UnwindCode
 codesIn zero f n bs = []
 codesIn (suc k) f zero bs = []
 codesIn (suc k) f (suc n) bs =
     let c = codeAt f bs in
-    cond (leb 1 (c .slots) && leb (c .slots) (suc n)) (c ∷ codesIn k f (suc n - c .slots) (drop (2 * c .slots) bs)) (undecodable ∷ [])
+    cond (within (suc n) c) (c ∷ codesIn k f (suc n - c .slots) (drop (2 * c .slots) bs)) (undecodable ∷ [])
 
 -- those of a part
 unfoldable pub codesOf : List ℕ → List UnwindCode

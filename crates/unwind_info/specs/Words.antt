@@ -19,9 +19,9 @@ use Rattle.fill.specs.Fill.{Fills}
 use Rattle.fill.specs.Fill.Laws.{filled-alike}
 use Rattle.unwind_info.specs.declared.UnwindCode.{UnwindCode}
 use Rattle.unwind_info.specs.UnwindInfo.{byte, slotAt, longAt, slotCount, frameRegister, frameOffset, partSize, code, undecodable, saveKind}
-use Rattle.unwind_info.specs.UnwindInfo.{allocLarge, pushMachframe, codes, codeAt, codesIn, codesOf, opWords, infoWords, partsIn, parts, infosWords, x64Body}
+use Rattle.unwind_info.specs.UnwindInfo.{allocLarge, pushMachframe, codes, codeAt, within, codesIn, codesOf, opWords, infoWords, partsIn, parts, infosWords, x64Body}
 use Rattle.unwind_info.specs.UnwindInfo.{firstRefused, countNumber, x64Number, decoded}
-use Rattle.unwind_info.specs.Index.{within, codes-few, info-length}
+use Rattle.unwind_info.specs.Index.{codes-few, ops-length, info-length}
 
 -- ---- bytes
 
@@ -134,11 +134,6 @@ module _ (p : ℕ → ℕ → ℕ → Bool) where
       (ops-pass (front ++ (frameRegister q ∷ frameOffset q ∷ n ∷ [])) rest (codesOf q) h))
 
 -- ---- the infos one after the other
-
-ops-length : (cs : List UnwindCode) → length (opWords cs) ≡ 3 * length cs
-unfolding opWords
-ops-length [] = refl
-ops-length (c ∷ cs) = omega (arith, ops-length cs)
 
 -- a test of the words behind an info
 behind-info : (front rest q : List ℕ) (P : List ℕ → ℕ → Type 0) → P ((front ++ infoWords q) ++ rest) (length (front ++ infoWords q))

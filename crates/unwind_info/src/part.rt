@@ -32,6 +32,13 @@ pub(crate) fn frame_offset(part: &[u8]) -> u32
     byte(part, 3) / 16 * 16
 }
 
+// The register that every save of the part lies relative to, wherever it is set; 0 for RSP.
+pub(crate) fn save_base(part: &[u8]) -> u32
+    ensures { λ r. ⌜ r ≡ frameRegister (now (part .entry)) ⌝ }
+{
+    frame_register(part)
+}
+
 // The header and the slots that it counts, whatever they hold.
 pub(crate) fn part_size(part: &[u8]) -> usize
     ensures { λ r. ⌜ (r ≡ partSize (now (part .entry))) × (r ≤ 514) ⌝ }
@@ -43,10 +50,12 @@ pub(crate) fn part_size(part: &[u8]) -> usize
 fn part_number(part: &[u8]) -> u32
     ensures { λ r. ⌜ r ≡ partNumber (now (part .entry)) ⌝ }
 {
-    if byte(part, 0) % 8 != VERSION {
+    let version = byte(part, 0) % 8;
+    let size = part_size(part);
+    if version != VERSION {
         return refusal::VERSION;
     }
-    if part.len() < part_size(part) {
+    if part.len() < size {
         return refusal::TRUNCATED;
     }
     refusal::NONE

@@ -19,7 +19,7 @@ returns : tie.Need-returns
 returns c = search needs
 
 returns-2 : tie.Need-returns-2
-returns-2 c = sym (set-out (c .before .args .out .now) (c .before .args .at) (c .before .args .w) (omega arith))
+returns-2 c = sym (set-out (c .before .args .out .now) (c .before .args .at) (c .before .args .word) (omega arith))
 
 pub set-word-spec : {M : Type 1} → statement M
 set-word-spec = tie.close (tie.spec mul-out slice-write-out same-length returns returns-2)

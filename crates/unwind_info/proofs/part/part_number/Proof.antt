@@ -1,9 +1,6 @@
 -- `part_number`: 10, then 11.
-use Rattle.unwind_info.specs.UnwindInfo.{partNumber, byte, partSize}
-use borrow.Author.Tests.{eq-eqb, ne-eqb, lt-ltb, le-ltb}
-use lib.ListN.{length}
-use Prim.Native.Nat.{_%_}
-use native.Mathlib.Omega.{arith}
+use Rattle.unwind_info.specs.Index.{is-version, is-short, is-whole}
+use Rattle.unwind_info.specs.UnwindInfo.{byte}
 use borrow.Author.Needs.{needs}
 use Rattle.unwind_info.proofs.code.byte.Reads as byte-reads
 use Rattle.unwind_info.proofs.part.part_size.Reads as part-size-reads
@@ -13,27 +10,24 @@ use Rattle.unwind_info.proofs.part.part_number.Tie as tie
 byte-requires : tie.Need-byte-requires
 byte-requires c κs = search needs
 
-returns : tie.Need-returns
-unfolding partNumber
-returns c = rw (← c .before .byte .ensures .0, ne-eqb (c .before .byte .result % 8) 1 (c .if1 .taken))
-
 part-size-requires : tie.Need-part-size-requires
 part-size-requires c κs = search needs
 
+returns : tie.Need-returns
+returns c = is-version (c .before .before .before .before .args .part .now) (c .before .before .byte .ensures .0) (c .if1 .taken)
+
 returns-2 : tie.Need-returns-2
-unfolding partNumber
 returns-2 c =
-    let byte = c .before .before .before .byte in
     let args = c .before .before .before .before .before .args in
-    rw (← byte .ensures .0, eq-eqb (byte .result % 8) 1 (c .before .before .if1 .left), lt-ltb (length (args .part .now)) (partSize (args .part .now)) (omega (arith, c .if2 .taken, c .before .part-size .ensures .0)))
+    let byte = c .before .before .before .byte in
+    is-short (args .part .now) (byte .ensures .0) (c .before .before .part-size .ensures .0) (c .before .if1 .left) (c .if2 .taken)
 
 returns-3 : tie.Need-returns-3
-unfolding partNumber
 returns-3 c =
-    let byte = c .before .before .before .byte in
     let args = c .before .before .before .before .before .args in
-    rw (← byte .ensures .0, eq-eqb (byte .result % 8) 1 (c .before .before .if1 .left), le-ltb (length (args .part .now)) (partSize (args .part .now)) (omega (arith, c .if2 .left, c .before .part-size .ensures .0)))
+    let byte = c .before .before .before .byte in
+    is-whole (args .part .now) (byte .ensures .0) (c .before .before .part-size .ensures .0) (c .before .if1 .left) (search needs)
 
 pub part-number-spec : {M : Type 1} → statement M
 part-number-spec =
-    tie.close (tie.spec byte-requires returns part-size-requires returns-2 returns-3)
+    tie.close (tie.spec byte-requires part-size-requires returns returns-2 returns-3)
