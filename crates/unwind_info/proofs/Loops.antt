@@ -2,20 +2,20 @@
 use mathlib.Core.Path.{_≡_, refl, sym, ap, _∙_}
 use mathlib.Core.Bool.{Bool, true, false, cond, _&&_}
 use mathlib.Core.List.{List, [], _∷_, _++_}
-use Prim.Native.Nat.{ℕ, zero, suc, _+_, _-_, _*_, _≤_, _<_, min}
+use Prim.Native.Nat.{ℕ, zero, suc, _+_, _-_, _*_, _/_, _%_, _≤_, _<_, min}
 use native.Mathlib.Omega.{arith}
 use lib.ListN.{length, take, drop, set, length-append, length-drop, drop-of-length-le}
 use lib.Seq.{drop-drop, take-all}
 use lib.Dec.{eqb, leb, eqb·suc-zero}
-use borrow.Author.Tests.{eq-eqb, ne-eqb, leb-true}
+use borrow.Author.Tests.{eq-eqb, ne-eqb, le-leb, leb-true}
 use Rattle.text.specs.Text.{MAX, Put, Left}
-use Rattle.text.specs.Text.Laws.{_⨾_, left-all, left-put, left-as, left-none}
+use Rattle.text.specs.Text.Laws.{_⨾_, put-length, left-all, left-put, left-as, left-none}
 use Rattle.fill.specs.Fill.Laws.{third}
 use Rattle.unwind_info.specs.declared.UnwindCode.{UnwindCode}
 use Rattle.unwind_info.specs.declared.Checked.{Checked}
-use Rattle.unwind_info.specs.UnwindInfo.{slotCount, frameRegister, frameOffset, partSize, codeAt, codesIn, codesOf, opWords, infoWords, parts, partsIn, infosWords}
+use Rattle.unwind_info.specs.UnwindInfo.{byte, slotCount, frameRegister, frameOffset, partSize, code, codes, codeAt, codesIn, codesOf, opWords, infoWords, parts, partsIn, infosWords}
 use Rattle.unwind_info.specs.UnwindInfo.{partNumber, firstRefused, countNumber, x64Number}
-use Rattle.unwind_info.specs.Index.{taken, taken-slots, codes-first, First, info-length, parts-first, parts-none, part-whole, Checks}
+use Rattle.unwind_info.specs.Index.{taken, taken-slots, codes-first, code-drop, info-length, parts-first, parts-none, part-whole, Checks}
 
 -- the part of a slice from a place to its end, as code cuts it out
 pub rest-is : (bs : List ℕ) (i : ℕ) → take (length bs - i) (drop i bs) ≡ drop i bs
@@ -119,49 +119,77 @@ check-end {bs} {at} {p} {s} g h =
 
 -- ---- the codes of a part
 
-pub record OpsLeft (bs : List ℕ) (f n : ℕ) (d : List ℕ) (at : ℕ) (d₁ : List ℕ) (p i left count : ℕ) : Type 0 where
+-- those that are left, and how many were met
+pub record CodesLeft (bs : List ℕ) (f n i left count : ℕ) : Type 0 where
+  pub there : 4 + 2 * n ≤ length bs
   pub place : i + 2 * left ≡ 4 + 2 * n
   pub some : count + left ≤ n
   pub count-is : count + length (codesIn left f left (drop i bs)) ≡ length (codesIn n f n (drop 4 bs))
+
+pub codes-all : (bs : List ℕ) (f n : ℕ) → 4 + 2 * n ≤ length bs → CodesLeft bs f n 4 n 0
+codes-all bs f n h = record { there = h; place = refl; some = omega arith; count-is = omega arith }
+
+module _ {bs : List ℕ} {f n i left count : ℕ} {c : UnwindCode} (l : CodesLeft bs f n i left count) (h : 0 < left) (e : c ≡ taken left (codeAt f (drop i bs))) where
+  -- a code takes a slot, and no more than are left
+  pub code-slots : (1 ≤ c .slots) × (c .slots ≤ left)
+  code-slots = rw e (taken-slots left (codeAt f (drop i bs)) h)
+
+  behind : codesIn (left - c .slots) f (left - c .slots) (drop (2 * c .slots) (drop i bs)) ≡ codesIn (left - c .slots) f (left - c .slots) (drop (i + 2 * c .slots) bs)
+  behind = ap (codesIn (left - c .slots) f (left - c .slots)) (drop-drop (2 * c .slots) i bs)
+
+  pub code-words : opWords (codesIn left f left (drop i bs)) ≡ (c .kind ∷ c .register ∷ c .value ∷ []) ++ opWords (codesIn (left - c .slots) f (left - c .slots) (drop (i + 2 * c .slots) bs))
+  code-words = (rw (← e) at (codes-first f left (drop i bs) h .words)) ∙ ap (λ (l : List UnwindCode). c .kind ∷ c .register ∷ c .value ∷ opWords l) behind
+
+  pub codes-turn : CodesLeft bs f n (i + 2 * c .slots) (left - c .slots) (count + 1)
+  codes-turn =
+      let t = code-slots in
+      let first : length (codesIn left f left (drop i bs)) ≡ suc (length (codesIn (left - c .slots) f (left - c .slots) (drop (2 * c .slots) (drop i bs)))) = rw (← e) at (codes-first f left (drop i bs) h .count) in
+      record {
+        there = l .there;
+        place = omega (arith, l .place, t);
+        some = omega (arith, l .some, t);
+        count-is = omega (arith, l .count-is, first, ap length behind);
+      }
+
+pub codes-done : {bs : List ℕ} {f n i left count : ℕ} → CodesLeft bs f n i left count → left ≤ 0 → (count ≡ length (codesIn n f n (drop 4 bs))) × (count ≤ n)
+unfolding codesIn
+codes-done {bs} {f} {n} {i} {left} {count} l h =
+    let z : left ≡ 0 = omega arith in
+    (omega (arith, rw z at (l .count-is)), omega (arith, l .some))
+
+-- and put
+pub record OpsLeft (bs : List ℕ) (f n : ℕ) (d : List ℕ) (at : ℕ) (d₁ : List ℕ) (p i left count : ℕ) : Type 0 where
+  pub codes : CodesLeft bs f n i left count
+  pub room : at + length (opWords (codesIn n f n (drop 4 bs))) ≤ length d
   pub text : Left d at (opWords (codesIn n f n (drop 4 bs))) d₁ p (opWords (codesIn left f left (drop i bs)))
 
-pub ops-all : {d : List ℕ} {at : ℕ} (bs : List ℕ) (f n : ℕ) → length d ≤ MAX → at ≤ MAX → OpsLeft bs f n d at d at 4 n 0
-ops-all bs f n h k = record { place = refl; some = omega arith; count-is = omega arith; text = left-all h k }
+pub ops-all : {d : List ℕ} {at : ℕ} (bs : List ℕ) (f n : ℕ) → 4 + 2 * n ≤ length bs → at + length (opWords (codesIn n f n (drop 4 bs))) ≤ length d → length d ≤ MAX
+    → OpsLeft bs f n d at d at 4 n 0
+ops-all bs f n t r h = record { codes = codes-all bs f n t; room = r; text = left-all h (omega arith) }
 
-pub ops-turn : {bs d d₁ d₂ : List ℕ} {f n at p q i left count : ℕ} {c : UnwindCode} → OpsLeft bs f n d at d₁ p i left count → 0 < left
-    → c ≡ taken left (codeAt f (drop i bs)) → Put d₁ p (c .kind ∷ c .register ∷ c .value ∷ []) d₂ q
-    → OpsLeft bs f n d at d₂ q (i + 2 * c .slots) (left - c .slots) (count + 1)
-ops-turn {bs} {d} {d₁} {d₂} {f} {n} {at} {p} {q} {i} {left} {count} {c} l h e x =
-    rw e (record {
-      place = omega (arith, l .place, t);
-      some = omega (arith, l .some, t);
-      count-is = omega (arith, l .count-is, first .count, ap length behind);
-      text = left-as (left-put (left-as (l .text) (first .words)) (rw e at x)) (ap opWords behind);
-    })
-  where
-    k : ℕ
-    k = taken left (codeAt f (drop i bs)) .slots
+-- where all fits, what is left fits too
+left-room : {d t d₁ u : List ℕ} {at p : ℕ} → Left d at t d₁ p u → at + length t ≤ length d → p + length u ≤ length d₁
+left-room {d} {t} {d₁} {u} {at} {p} l h =
+    omega (arith, l .put .next, l .put .short, put-length (l .put), length-append (l .done) u, ap length (l .rest), h)
 
-    t : (1 ≤ k) × (k ≤ left)
-    t = taken-slots left (codeAt f (drop i bs)) h
+module _ {bs d d₁ : List ℕ} {f n at p i left count : ℕ} {c : UnwindCode} (l : OpsLeft bs f n d at d₁ p i left count) (h : 0 < left) (e : c ≡ taken left (codeAt f (drop i bs))) where
+  pub op-room : p + 3 ≤ length d₁
+  op-room = omega (arith, left-room (l .text) (l .room), ap length (code-words (l .codes) h e))
 
-    first : First f left (drop i bs)
-    first = codes-first f left (drop i bs) h
+  pub ops-turn : {d₂ : List ℕ} {q : ℕ} → Put d₁ p (c .kind ∷ c .register ∷ c .value ∷ []) d₂ q → OpsLeft bs f n d at d₂ q (i + 2 * c .slots) (left - c .slots) (count + 1)
+  ops-turn x = record { codes = codes-turn (l .codes) h e; room = l .room; text = left-put (left-as (l .text) (code-words (l .codes) h e)) x }
 
-    behind : codesIn (left - k) f (left - k) (drop (2 * k) (drop i bs)) ≡ codesIn (left - k) f (left - k) (drop (i + 2 * k) bs)
-    behind = ap (codesIn (left - k) f (left - k)) (drop-drop (2 * k) i bs)
-
--- a code takes a slot, and no more than are left
-pub ops-slots : {bs d d₁ : List ℕ} {f n at p i left count : ℕ} {c : UnwindCode} → OpsLeft bs f n d at d₁ p i left count → 0 < left
-    → c ≡ taken left (codeAt f (drop i bs)) → (1 ≤ c .slots) × (c .slots ≤ left)
-ops-slots {bs} {d} {d₁} {f} {n} {at} {p} {i} {left} l h e = rw e (taken-slots left (codeAt f (drop i bs)) h)
+-- a push by its byte
+pub push-taken : (bs : List ℕ) (i left b f : ℕ) → 0 < left → b ≡ byte bs (i + 1) → b % 16 ≡ 0 → code 1 1 (b / 16) 0 ≡ taken left (codeAt f (drop i bs))
+unfolding codes
+push-taken bs i left b f h e z = rw (code-drop f bs i, ← e, z, le-leb 1 left (omega arith))
 
 pub ops-done : {bs d d₁ : List ℕ} {f n at p i left count : ℕ} → OpsLeft bs f n d at d₁ p i left count → left ≤ 0
     → Put d at (opWords (codesIn n f n (drop 4 bs))) d₁ p × ((count ≡ length (codesIn n f n (drop 4 bs))) × (count ≤ n))
 unfolding codesIn opWords
 ops-done {bs} {d} {d₁} {f} {n} {at} {p} {i} {left} {count} l h =
     let z : left ≡ 0 = omega arith in
-    (left-none (rw z at (l .text)), (omega (arith, rw z at (l .count-is)), omega (arith, l .some)))
+    (left-none (rw z at (l .text)), codes-done (l .codes) h)
 
 -- ---- the infos
 
@@ -174,32 +202,79 @@ info-put {d} {d₁} {d₂} {d₃} {d₄} {d₅} {at} {p} {q} {s} {r} {f} {o} {n}
     let k : q ≡ min (at + 2) MAX = omega (arith, x .next, y .next) in
     rw (e, ← ef, ← eo, ← en, k) (third n (x ⨾ y ⨾ z ⨾ w))
 
-pub record PartsLeft (bs d : List ℕ) (at : ℕ) (d₁ : List ℕ) (p i : ℕ) : Type 0 where
+-- where it fits, its operations fit behind the three words before them
+pub info-room : {d d₁ d₂ d₃ : List ℕ} {at p q s x y z f n : ℕ} (part : List ℕ) → Put d at (x ∷ []) d₁ p → Put d₁ p (y ∷ []) d₂ q → Put d₂ q (z ∷ []) d₃ s
+    → at + length (infoWords part) ≤ length d → f ≡ frameRegister part → n ≡ slotCount part → s + length (opWords (codesIn n f n (drop 4 part))) ≤ length d₃
+unfolding infoWords codesOf
+info-room part u v w h ef en = rw (ef, en) (omega (arith, h, u .next, v .next, w .next, put-length (u ⨾ v ⨾ w)))
+
+-- the parts that are left, all of them whole
+pub record PartsLeft (bs : List ℕ) (i : ℕ) : Type 0 where
   pub inside : i ≤ length bs
   pub whole : firstRefused (parts (drop i bs)) ≡ 0
+
+module _ {bs : List ℕ} {i : ℕ} (l : PartsLeft bs i) (h : i < length bs) where
+  part-good : partNumber (drop i bs) ≡ 0
+  part-good = none-refused (drop i bs) _ (sym (ap firstRefused (parts-at bs i h)) ∙ l .whole)
+
+  -- the part at i is there
+  pub part-there : partSize (drop i bs) ≤ length (drop i bs)
+  part-there = part-whole (drop i bs) part-good
+
+  pub parts-within : i + partSize (drop i bs) ≤ length bs
+  parts-within = omega (arith, part-there, length-drop i bs)
+
+  pub part-words : infosWords (parts (drop i bs)) ≡ infoWords (drop i bs) ++ infosWords (parts (drop (i + partSize (drop i bs)) bs))
+  unfolding infosWords
+  part-words = ap infosWords (parts-at bs i h)
+
+  pub parts-turn : PartsLeft bs (i + partSize (drop i bs))
+  parts-turn = record {
+    inside = parts-within;
+    whole = sym (refused-behind (drop i bs) _ part-good) ∙ sym (ap firstRefused (parts-at bs i h)) ∙ l .whole;
+  }
+
+pub parts-all : (bs : List ℕ) → firstRefused (parts bs) ≡ 0 → PartsLeft bs 0
+parts-all bs e = record { inside = omega arith; whole = e }
+
+none-left : (bs : List ℕ) (i : ℕ) → length bs ≤ i → infosWords (parts (drop i bs)) ≡ []
+unfolding infosWords
+none-left bs i h = ap infosWords (parts-end bs i h)
+
+-- counted
+pub record WordsLeft (bs : List ℕ) (words i : ℕ) : Type 0 where
+  pub parts-left : PartsLeft bs i
+  pub sum : words + length (infosWords (parts (drop i bs))) ≡ 4 + length (infosWords (parts bs))
+
+pub words-all : (bs : List ℕ) → firstRefused (parts bs) ≡ 0 → WordsLeft bs 4 0
+words-all bs e = record { parts-left = parts-all bs e; sum = refl }
+
+pub words-turn : {bs : List ℕ} {words i n : ℕ} → WordsLeft bs words i → i < length bs → n ≡ length (infoWords (drop i bs))
+    → WordsLeft bs (words + n) (i + partSize (drop i bs))
+words-turn {bs} {words} {i} {n} l h e = record {
+  parts-left = parts-turn (l .parts-left) h;
+  sum = omega (arith, l .sum, e, ap length (part-words (l .parts-left) h), length-append (infoWords (drop i bs)) (infosWords (parts (drop (i + partSize (drop i bs)) bs))));
+}
+
+pub words-done : {bs : List ℕ} {words i : ℕ} → WordsLeft bs words i → length bs ≤ i → words ≡ 4 + length (infosWords (parts bs))
+words-done {bs} {words} {i} l h = omega (arith, l .sum, ap length (none-left bs i h))
+
+-- put
+pub record InfosLeft (bs d : List ℕ) (at : ℕ) (d₁ : List ℕ) (p i : ℕ) : Type 0 where
+  pub parts-left : PartsLeft bs i
+  pub room : at + length (infosWords (parts bs)) ≤ length d
   pub text : Left d at (infosWords (parts bs)) d₁ p (infosWords (parts (drop i bs)))
 
-pub parts-all : {d : List ℕ} {at : ℕ} (bs : List ℕ) → firstRefused (parts bs) ≡ 0 → length d ≤ MAX → at ≤ MAX → PartsLeft bs d at d at 0
-parts-all bs e h k = record { inside = omega arith; whole = e; text = left-all h k }
+pub infos-all : {d : List ℕ} {at : ℕ} (bs : List ℕ) → firstRefused (parts bs) ≡ 0 → at + length (infosWords (parts bs)) ≤ length d → length d ≤ MAX → InfosLeft bs d at d at 0
+infos-all bs e r h = record { parts-left = parts-all bs e; room = r; text = left-all h (omega arith) }
 
--- the part at i ends within the bytes
-pub parts-within : {bs d d₁ : List ℕ} {at p i : ℕ} → PartsLeft bs d at d₁ p i → i < length bs → i + partSize (drop i bs) ≤ length bs
-parts-within {bs} {d} {d₁} {at} {p} {i} l h =
-    let e = none-refused (drop i bs) _ (sym (ap firstRefused (parts-at bs i h)) ∙ l .whole) in
-    omega (arith, part-whole (drop i bs) e, length-drop i bs)
+module _ {bs d d₁ : List ℕ} {at p i : ℕ} (l : InfosLeft bs d at d₁ p i) (h : i < length bs) where
+  pub part-room : p + length (infoWords (drop i bs)) ≤ length d₁
+  part-room =
+      omega (arith, left-room (l .text) (l .room), ap length (part-words (l .parts-left) h), length-append (infoWords (drop i bs)) (infosWords (parts (drop (i + partSize (drop i bs)) bs))))
 
-pub parts-turn : {bs d d₁ d₂ : List ℕ} {at p q i : ℕ} → PartsLeft bs d at d₁ p i → i < length bs → Put d₁ p (infoWords (drop i bs)) d₂ q
-    → PartsLeft bs d at d₂ q (i + partSize (drop i bs))
-unfolding infosWords
-parts-turn {bs} {d} {d₁} {d₂} {at} {p} {q} {i} l h x =
-    let first = parts-at bs i h in
-    let w : firstRefused (drop i bs ∷ parts (drop (i + partSize (drop i bs)) bs)) ≡ 0 = sym (ap firstRefused first) ∙ l .whole in
-    record {
-      inside = parts-within l h;
-      whole = sym (refused-behind (drop i bs) _ (none-refused (drop i bs) _ w)) ∙ w;
-      text = left-put (left-as (l .text) (ap infosWords first)) x;
-    }
+  pub infos-turn : {d₂ : List ℕ} {q : ℕ} → Put d₁ p (infoWords (drop i bs)) d₂ q → InfosLeft bs d at d₂ q (i + partSize (drop i bs))
+  infos-turn x = record { parts-left = parts-turn (l .parts-left) h; room = l .room; text = left-put (left-as (l .text) (part-words (l .parts-left) h)) x }
 
-pub parts-done : {bs d d₁ : List ℕ} {at p i : ℕ} → PartsLeft bs d at d₁ p i → length bs ≤ i → Put d at (infosWords (parts bs)) d₁ p
-unfolding infosWords
-parts-done {bs} {d} {d₁} {at} {p} {i} l h = left-none (left-as (l .text) (ap infosWords (parts-end bs i h)))
+pub infos-done : {bs d d₁ : List ℕ} {at p i : ℕ} → InfosLeft bs d at d₁ p i → length bs ≤ i → Put d at (infosWords (parts bs)) d₁ p
+infos-done {bs} {d} {d₁} {at} {p} {i} l h = left-none (left-as (l .text) (none-left bs i h))

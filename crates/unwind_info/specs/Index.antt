@@ -152,10 +152,14 @@ unfolding opWords
 ops-length [] = refl
 ops-length (c ∷ cs) = omega (arith, ops-length cs)
 
--- an info has three words, and three for each slot at most
+-- an info has three words, and three for each code; there are no more of these than slots
+pub info-size : (p : List ℕ) → length (infoWords p) ≡ 3 + 3 * length (codesOf p)
+unfolding infoWords
+info-size p = omega (arith, ops-length (codesOf p))
+
 pub info-length : (p : List ℕ) → length (infoWords p) ≤ 3 + 3 * slotCount p
-unfolding infoWords codesOf
-info-length p = omega (arith, ops-length (codesOf p), codes-few (slotCount p) (byte p 3 % 16) (slotCount p) (drop 4 p))
+unfolding codesOf
+info-length p = omega (arith, info-size p, codes-few (slotCount p) (byte p 3 % 16) (slotCount p) (drop 4 p))
 
 -- ---- the parts
 

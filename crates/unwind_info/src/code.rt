@@ -1,13 +1,15 @@
 // One unwind code: a slot, and the one or two behind it that hold its number.
 use crate::UnwindCode;
 ghost use mathlib.Core.Path.{_≡_};
-ghost use Prim.Native.Nat.{_^_, _<_};
-ghost use lib.ListN.{getD, drop};
+ghost use mathlib.Core.Bool.{_&&_};
+ghost use Prim.Native.Nat.{_^_, _<_, _+_};
+ghost use lib.ListN.{length, getD, drop};
+ghost use lib.Dec.{leb};
 ghost use Rattle.unwind_info.specs.UnwindInfo.{slotAt, longAt, code, undecodable, saveKind, allocLarge, pushMachframe, codes, codeAt};
 ghost use Rattle.unwind_info.specs.Index.{taken as takenOf};
 
 // The operation codes (low 4 bits).
-const PUSH_NONVOL: u32 = 0;
+pub(crate) const PUSH_NONVOL: u32 = 0;
 
 const ALLOC_LARGE: u32 = 1;
 
@@ -26,7 +28,7 @@ const SAVE_XMM128_FAR: u32 = 9;
 const PUSH_MACHFRAME: u32 = 10;
 
 // The kinds of operations in a body (docs/BOOK.md, x64 body).
-const PUSH_NONVOLATILE: u32 = 1;
+pub(crate) const PUSH_NONVOLATILE: u32 = 1;
 
 const ALLOC: u32 = 2;
 
@@ -64,6 +66,14 @@ pub(crate) fn byte(bytes: &[u8], i: usize) -> u32
     0
 }
 
+// The byte at i, which is there.
+pub(crate) fn byte_in(bytes: &[u8], i: usize) -> u32
+    requires { ⌜ i < length (now bytes) ⌝ }
+    ensures { λ r. ⌜ (r ≡ getD (now (bytes .entry)) i 0) × (r < 256) ⌝ }
+{
+    wide(bytes[i])
+}
+
 // The slot at byte i as a number, the low byte first.
 fn slot_at(bytes: &[u8], i: usize) -> u32
     requires { ⌜ i < 2 ^ 33 ⌝ }
@@ -90,14 +100,15 @@ fn save_kind(frame: u32) -> u32
     SAVE_FP
 }
 
-fn undefined() -> UnwindCode
-    ensures { λ r. ⌜ r ≡ undecodable ⌝ }
+// An unwind code by its slots and its operation.
+fn op(slots: usize, kind: u32, register: u32, value: u32) -> UnwindCode
+    ensures { λ r. ⌜ r ≡ code slots kind register value ⌝ }
 {
     UnwindCode {
-        slots: 0,
-        kind: UNDECODABLE,
-        register: 0,
-        value: 0,
+        slots,
+        kind,
+        register,
+        value,
     }
 }
 
@@ -107,22 +118,12 @@ fn alloc_large(bytes: &[u8], i: usize, info: u32) -> UnwindCode
     ensures { λ r. ⌜ r ≡ allocLarge info (slotAt (now (bytes .entry)) i) (longAt (now (bytes .entry)) i) ⌝ }
 {
     if info == 0 {
-        return UnwindCode {
-            slots: 2,
-            kind: ALLOC,
-            register: 0,
-            value: UNIT * slot_at(bytes, i),
-        };
+        return op(2, ALLOC, 0, UNIT * slot_at(bytes, i));
     }
     if info == 1 {
-        return UnwindCode {
-            slots: 3,
-            kind: ALLOC,
-            register: 0,
-            value: long_at(bytes, i),
-        };
+        return op(3, ALLOC, 0, long_at(bytes, i));
     }
-    undefined()
+    op(0, UNDECODABLE, 0, 0)
 }
 
 // Info says whether there is an error code.
@@ -130,26 +131,9 @@ fn push_machframe(info: u32) -> UnwindCode
     ensures { λ r. ⌜ r ≡ pushMachframe info ⌝ }
 {
     if info <= 1 {
-        return UnwindCode {
-            slots: 1,
-            kind: PUSH_MACHINE_FRAME,
-            register: 0,
-            value: info,
-        };
+        return op(1, PUSH_MACHINE_FRAME, 0, info);
     }
-    undefined()
-}
-
-// An operation of one slot.
-fn short(kind: u32, register: u32, value: u32) -> UnwindCode
-    ensures { λ r. ⌜ r ≡ code 1 kind register value ⌝ }
-{
-    UnwindCode {
-        slots: 1,
-        kind,
-        register,
-        value,
-    }
+    op(0, UNDECODABLE, 0, 0)
 }
 
 // The table of codes; what stands behind the code's slot starts at byte i.
@@ -158,37 +142,27 @@ fn code_of(bytes: &[u8], i: usize, code: u32, info: u32, frame: u32) -> UnwindCo
     ensures { λ r. ⌜ r ≡ getD (codes frame info (slotAt (now (bytes .entry)) i) (longAt (now (bytes .entry)) i)) code undecodable ⌝ }
 {
     match code {
-        PUSH_NONVOL => short(PUSH_NONVOLATILE, info, 0),
+        PUSH_NONVOL => op(1, PUSH_NONVOLATILE, info, 0),
         ALLOC_LARGE => alloc_large(bytes, i, info),
-        ALLOC_SMALL => short(ALLOC, 0, UNIT * info + UNIT),
-        SET_FPREG => short(SET_FP_REGISTER, 0, 0),
-        SAVE_NONVOL => UnwindCode {
-            slots: 2,
-            kind: save_kind(frame),
-            register: info,
-            value: UNIT * slot_at(bytes, i),
-        },
-        SAVE_NONVOL_FAR => UnwindCode {
-            slots: 3,
-            kind: save_kind(frame),
-            register: info,
-            value: long_at(bytes, i),
-        },
-        SAVE_XMM128 => UnwindCode {
-            slots: 2,
-            kind: OTHER,
-            register: 0,
-            value: 0,
-        },
-        SAVE_XMM128_FAR => UnwindCode {
-            slots: 3,
-            kind: OTHER,
-            register: 0,
-            value: 0,
-        },
+        ALLOC_SMALL => op(1, ALLOC, 0, UNIT * info + UNIT),
+        SET_FPREG => op(1, SET_FP_REGISTER, 0, 0),
+        SAVE_NONVOL => op(2, save_kind(frame), info, UNIT * slot_at(bytes, i)),
+        SAVE_NONVOL_FAR => op(3, save_kind(frame), info, long_at(bytes, i)),
+        SAVE_XMM128 => op(2, OTHER, 0, 0),
+        SAVE_XMM128_FAR => op(3, OTHER, 0, 0),
         PUSH_MACHFRAME => push_machframe(info),
-        _ => undefined(),
+        _ => op(0, UNDECODABLE, 0, 0),
     }
+}
+
+// Whether a code is defined and has its slots within those that are left.
+fn within(slots: usize, left: usize) -> bool
+    ensures { λ r. ⌜ r ≡ (leb 1 slots && leb slots left) ⌝ }
+{
+    if 1 <= slots {
+        return slots <= left;
+    }
+    false
 }
 
 // Where `left` slots are left: a code that is not defined or lacks slots is undecodable and takes all of them.
@@ -196,30 +170,17 @@ fn taken(code: UnwindCode, left: usize) -> UnwindCode
     ensures { λ r. ⌜ r ≡ takenOf left code ⌝ }
 {
     let slots = code.slots;
-    if slots == 0 {
-        return UnwindCode {
-            slots: left,
-            kind: UNDECODABLE,
-            register: 0,
-            value: 0,
-        };
+    if within(slots, left) {
+        return code;
     }
-    if left < slots {
-        return UnwindCode {
-            slots: left,
-            kind: UNDECODABLE,
-            register: 0,
-            value: 0,
-        };
-    }
-    code
+    op(left, UNDECODABLE, 0, 0)
 }
 
 // The code whose slot is at byte i of a part with this frame register, `left` slots before the part's end.
 pub(crate) fn code_at(part: &[u8], i: usize, frame: u32, left: usize) -> UnwindCode
-    requires { ⌜ i < 2 ^ 31 ⌝ }
+    requires { ⌜ (i < 2 ^ 31) × (i + 1 < length (now part)) ⌝ }
     ensures { λ r. ⌜ r ≡ takenOf left (codeAt frame (drop i (now (part .entry)))) ⌝ }
 {
-    let b = byte(part, i + 1);
+    let b = byte_in(part, i + 1);
     taken(code_of(part, i + SLOT, b % 16, b / 16, frame), left)
 }

@@ -18,13 +18,14 @@ mod write;
 use entry::refusal;
 use fill::Filled;
 use part::check_parts;
+use write::count_words;
 use write::put_body;
 ghost use mathlib.Core.Path.{_≡_};
 ghost use Prim.Native.Nat.{_+_, _*_, _≤_};
 ghost use lib.ListN.{length};
 ghost use lib.Dec.{leb};
 ghost use Rattle.fill.specs.Fill.{Fills};
-ghost use Rattle.unwind_info.specs.UnwindInfo.{x64Body, decoded};
+ghost use Rattle.unwind_info.specs.UnwindInfo.{parts as partsOf, infosWords, decoded};
 ghost use Rattle.unwind_info.specs.Index.{Checks};
 
 // An unwind code: the slots that it takes, 0 where it is not defined, and the operation that it becomes.
@@ -56,30 +57,15 @@ fn most_words(checked: Checked) -> usize
     4 + 3 * checked.parts + 3 * checked.slots
 }
 
-// Whether the room is long enough. Where the counts do not tell, the body is measured, into none of the room.
-fn fits(
-    bytes: &[u8],
-    begin: u32,
-    end: u32,
-    info_address: u32,
-    checked: Checked,
-    body: &mut [u32],
-) -> bool
+// Whether that room is long enough. Where the counts do not tell, the body's words are counted.
+fn fits(bytes: &[u8], checked: Checked, room: usize) -> bool
     requires { ⌜ Checks (now bytes) checked × (checked .number ≡ 0) ⌝ }
-    ensures { λ r. ⌜ (r ≡ leb (length (x64Body begin end «info_address» (now (bytes .entry)))) (length (now (body .entry)))) × (now (body .exit) ≡ now (body .entry)) ⌝ }
+    ensures { λ r. ⌜ r ≡ leb (4 + length (infosWords (partsOf (now (bytes .entry))))) room ⌝ }
 {
-    if most_words(checked) <= body.len() {
+    if most_words(checked) <= room {
         return true;
     }
-    put_body(
-        &mut body[..0],
-        bytes,
-        begin,
-        end,
-        info_address,
-        checked.parts,
-    )
-        <= body.len()
+    count_words(bytes) <= room
 }
 
 // The body of a function whose unwind bytes these are.
@@ -91,7 +77,7 @@ pub fn decode_x64(bytes: &[u8], begin: u32, end: u32, info_address: u32, body: &
     if number != refusal::NONE {
         return Filled { number, filled: 0 };
     }
-    if fits(bytes, begin, end, info_address, checked, body) {
+    if fits(bytes, checked, body.len()) {
         let filled = put_body(body, bytes, begin, end, info_address, checked.parts);
         return Filled {
             number: refusal::NONE,

@@ -1,5 +1,9 @@
 -- `decode_x64`: refused by the headers, too short a room, or filled.
 use mathlib.Core.Path.{sym, _∙_}
+use lib.ListN.{length}
+use Prim.Native.Nat.{_+_}
+use borrow.Author.Tests.{leb-true}
+use Rattle.unwind_info.specs.UnwindInfo.{parts, infosWords}
 use Rattle.unwind_info.proofs.Room.{whole, decode-refused, decode-short, decode-filled}
 use borrow.Author.Needs.{needs}
 use Rattle.unwind_info.proofs.fits.Reads as fits-reads
@@ -21,31 +25,27 @@ fits-requires c κs = search needs
 
 put-body-requires : tie.Need-put-body-requires
 put-body-requires c κs =
-    let check-parts = c .before .before .before .before .before .before .before .check-parts in
-    let if1 = c .before .before .before .before .before .before .if1 in
-    (check-parts .ensures .few (if1 .left), whole (check-parts .ensures) (if1 .left))
+    let check-parts = c .before .before .before .before .check-parts in
+    let if1 = c .before .before .before .if1 in
+    let args = c .before .before .before .before .before .before .before .args in
+    (check-parts .ensures .few (if1 .left), (whole (check-parts .ensures) (if1 .left), leb-true (4 + length (infosWords (parts (args .bytes .now)))) (length (args .body .now)) (sym (c .before .before .fits2 .ensures) ∙ c .before .if2 .taken)))
 
 same-length : tie.Need-same-length
 same-length c = search needs
 
 returns-2 : tie.Need-returns-2
 returns-2 c =
-    let check-parts = c .before .before .before .before .before .before .before .before .before .before .check-parts in
-    let if1 = c .before .before .before .before .before .before .before .before .before .if1 in
-    let fits2 = c .before .before .before .before .before .before .before .fits2 in
+    let check-parts = c .before .before .before .before .before .before .before .check-parts in
+    let if1 = c .before .before .before .before .before .before .if1 in
+    let fits2 = c .before .before .before .before .before .fits2 in
     let if2 = c .before .before .before .before .if2 in
-    decode-filled (check-parts .ensures) (if1 .left) (sym (fits2 .ensures .0) ∙ if2 .taken) (rw (fits2 .ensures .1) at (c .before .before .put-body .ensures))
-
-same-length-2 : tie.Need-same-length-2
-same-length-2 c = search needs
+    decode-filled (check-parts .ensures) (if1 .left) (sym (fits2 .ensures) ∙ if2 .taken) (c .before .before .put-body .ensures)
 
 returns-3 : tie.Need-returns-3
 returns-3 c =
-    let check-parts = c .before .before .before .before .before .before .check-parts in
-    let if1 = c .before .before .before .before .before .if1 in
-    let args = c .before .before .before .before .before .before .before .before .before .args in
-    let fits2 = c .before .before .before .fits2 in
-    decode-short (check-parts .ensures) (if1 .left) (args .begin) (args .end) (args .info-address) (args .body .now) _ (sym (fits2 .ensures .0) ∙ c .if2 .left) (fits2 .ensures .1)
+    let check-parts = c .before .before .before .check-parts in
+    let args = c .before .before .before .before .before .before .args in
+    decode-short (check-parts .ensures) (c .before .before .if1 .left) (args .begin) (args .end) (args .info-address) (args .body .now) (sym (c .before .fits2 .ensures) ∙ c .if2 .left)
 
 pub decode-x64-spec : {M : Type 1} → statement M
 decode-x64-spec =
@@ -57,5 +57,4 @@ decode-x64-spec =
     put-body-requires
     same-length
     returns-2
-    same-length-2
     returns-3)

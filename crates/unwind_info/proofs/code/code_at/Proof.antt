@@ -2,17 +2,17 @@
 use Rattle.unwind_info.specs.Index.{code-drop, taken}
 use mathlib.Core.Path.{ap, _∙_}
 use borrow.Author.Needs.{needs}
-use Rattle.unwind_info.proofs.code.byte.Reads as byte-reads
+use Rattle.unwind_info.proofs.code.byte_in.Reads as byte-in-reads
 use Rattle.unwind_info.proofs.code.code_of.Reads as code-of-reads
 use Rattle.unwind_info.proofs.code.taken.Reads as taken-reads
 use Rattle.unwind_info.proofs.code.code_at.Statement.{statement}
 use Rattle.unwind_info.proofs.code.code_at.Tie as tie
 
-add-byte : tie.Need-add-byte
-add-byte c = search needs
+add-byte-in : tie.Need-add-byte-in
+add-byte-in c = search needs
 
-byte-requires : tie.Need-byte-requires
-byte-requires c κs = search needs
+byte-in-requires : tie.Need-byte-in-requires
+byte-in-requires c κs = search needs
 
 add-code-of : tie.Need-add-code-of
 add-code-of c = search needs
@@ -26,8 +26,9 @@ taken-requires c κs = search needs
 returns : tie.Need-returns
 returns c =
     let args = c .before .before .before .before .args in
-    rw (code-drop (args .frame) (args .part .now) (args .i), ← c .before .before .byte .ensures .0) (c .taken .ensures ∙ ap (taken (args .left)) (c .before .code-of .ensures))
+    rw (code-drop (args .frame) (args .part .now) (args .i), ← c .before .before .byte-in .ensures .0) (c .taken .ensures ∙ ap (taken (args .left)) (c .before .code-of .ensures))
 
 pub code-at-spec : {M : Type 1} → statement M
 code-at-spec =
-    tie.close (tie.spec add-byte byte-requires add-code-of code-of-requires taken-requires returns)
+    tie.close
+    (tie.spec add-byte-in byte-in-requires add-code-of code-of-requires taken-requires returns)

@@ -1,17 +1,21 @@
 -- `taken`: by the slots that are left.
-use borrow.Author.Tests.{lt-leb, le-leb}
-use native.Mathlib.Omega.{arith}
+use borrow.Author.Needs.{needs}
+use Rattle.unwind_info.proofs.code.op.Reads as op-reads
+use Rattle.unwind_info.proofs.code.within.Reads as within-reads
 use Rattle.unwind_info.proofs.code.taken.Statement.{statement}
 use Rattle.unwind_info.proofs.code.taken.Tie as tie
 
+within-requires : tie.Need-within-requires
+within-requires c κs = search needs
+
 returns : tie.Need-returns
-returns c = rw (lt-leb 1 (c .before .args .code .slots) (omega (arith, c .if1 .taken)))
+returns c = rw (← c .before .within .ensures, c .if1 .taken)
+
+op-requires : tie.Need-op-requires
+op-requires c κs = search needs
 
 returns-2 : tie.Need-returns-2
-returns-2 c = rw (le-leb 1 (c .before .before .args .code .slots) (omega (arith, c .before .if1 .left)), lt-leb (c .before .before .args .code .slots) (c .before .before .args .left) (omega (arith, c .if2 .taken)))
-
-returns-3 : tie.Need-returns-3
-returns-3 c = rw (le-leb 1 (c .before .before .args .code .slots) (omega (arith, c .before .if1 .left)), le-leb (c .before .before .args .code .slots) (c .before .before .args .left) (omega (arith, c .if2 .left)))
+returns-2 c = rw (← c .before .before .within .ensures, c .before .if1 .left) (c .op .ensures)
 
 pub taken-spec : {M : Type 1} → statement M
-taken-spec = tie.close (tie.spec returns returns-2 returns-3)
+taken-spec = tie.close (tie.spec within-requires returns op-requires returns-2)
