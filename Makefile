@@ -14,7 +14,7 @@ help:
 	@echo 'make lib [PREFIX=dir]     the archive to link from C, $(ARCHIVE), its header is bindings/c/stacklines.h; with PREFIX also installed'
 	@echo 'make install PREFIX=dir   header, archive and pkg-config file to dir/include and dir/lib, once make lib has made the archive'
 	@echo 'make book                 the tool that makes books from readable text or unwind bytes, shows and compares them, target/book; tools/book/README.md'
-	@echo 'make fuzz [SEED=] [N=]    the archive against the model and the Rust on N books, from a fresh seed unless one is given'
+	@echo 'make fuzz [SEED=] [N=]    the archive against the model and the Rust on N books and unwind infos, from a fresh seed unless one is given'
 	@echo 'make faults               wrong programs, each caught by a test or refused by the prover; some minutes'
 	@echo 'make bench [LTO=fat]      the speed beside the Rust and a plain copy, how the time grows, the stack taken; LTO links the Rust that way'
 	@echo 'make bench-docs           the same, and its tables into docs/BENCHMARKS.md'

@@ -57,7 +57,7 @@ fn planted(t: &mut Tally, library: &str, text: &str) -> BTreeMap<String, String>
 /// The page of planted faults counts those that there are; those it lists for the prover are there, and under must-fail.
 pub fn held(t: &mut Tally, page: &str, proofs: &str, crates: &BTreeMap<String, BTreeSet<String>>) {
     let listed: Vec<(&str, &str)> = page.lines().filter_map(|l| l.strip_prefix("- `")?.split_once("`: ")).collect();
-    let cells = |r: &Vec<&str>| [0, 1, 4].map(|i| r.get(i).map_or("", |c| *c)).join(" ");
+    let cells = |r: &Vec<&str>| [0, 1, 5].map(|i| r.get(i).map_or("", |c| *c)).join(" ");
     let rows: BTreeSet<String> = tables(page).iter().flat_map(|x| x[1..].iter().map(cells)).collect();
     let mut counted = BTreeSet::new();
     let mut all = BTreeMap::new();

@@ -94,6 +94,21 @@ pub fn random_books(found: impl Fn(&Case, &mut Tally) -> Vec<String>, due: &[&[&
     run.end(&words, due)
 }
 
+/// The first of a run about which something is found, and the end of the program, with 1 where there is one: `found` makes the next case and says
+/// what differs on it. `what` names a case.
+pub fn first_difference(words: &Arguments, what: &str, found: impl Fn(&mut Rng) -> Vec<String>) -> ! {
+    let mut rng = Rng::new(words.seed);
+    for i in 0..words.count {
+        let found = found(&mut rng);
+        if !found.is_empty() {
+            println!("{what} {i}: {}", found.join(", "));
+            std::process::exit(1);
+        }
+    }
+    println!("no difference in {} {what}s", words.count);
+    std::process::exit(0);
+}
+
 fn show(case: &Case, found: &impl Fn(&Case, &mut Tally) -> Vec<String>) {
     let with = |book: &[u32]| Case { book: book.to_vec(), ..case.clone() };
     let small = with(&shrink(&case.book, &|book| !found(&with(book), &mut Tally::default()).is_empty()));
