@@ -2,7 +2,7 @@
 use crate::UnwindCode;
 ghost use mathlib.Core.Path.{_≡_};
 ghost use mathlib.Core.Bool.{_&&_};
-ghost use Prim.Native.Nat.{_^_, _<_, _+_};
+ghost use Prim.Native.Nat.{_^_, _<_, _+_, _*_};
 ghost use lib.ListN.{length, getD, drop};
 ghost use lib.Dec.{leb};
 ghost use Rattle.unwind_info.specs.UnwindInfo.{slotAt, longAt, code, undecodable, saveKind, allocLarge, pushMachframe, codes, codeAt};
@@ -90,6 +90,21 @@ fn long_at(bytes: &[u8], i: usize) -> u32
     slot_at(bytes, i) + 65536 * slot_at(bytes, i + SLOT)
 }
 
+// Where a register is saved: in one slot in units of 8, in two slots as it is.
+fn near_place(bytes: &[u8], i: usize) -> u32
+    requires { ⌜ i < 2 ^ 32 ⌝ }
+    ensures { λ r. ⌜ r ≡ 8 * slotAt (now (bytes .entry)) i ⌝ }
+{
+    UNIT * slot_at(bytes, i)
+}
+
+fn far_place(bytes: &[u8], i: usize) -> u32
+    requires { ⌜ i < 2 ^ 32 ⌝ }
+    ensures { λ r. ⌜ r ≡ longAt (now (bytes .entry)) i ⌝ }
+{
+    long_at(bytes, i)
+}
+
 // A save lies relative to the frame register wherever the part has one.
 fn save_kind(frame: u32) -> u32
     ensures { λ r. ⌜ r ≡ saveKind frame ⌝ }
@@ -146,8 +161,8 @@ fn code_of(bytes: &[u8], i: usize, code: u32, info: u32, frame: u32) -> UnwindCo
         ALLOC_LARGE => alloc_large(bytes, i, info),
         ALLOC_SMALL => op(1, ALLOC, 0, UNIT * info + UNIT),
         SET_FPREG => op(1, SET_FP_REGISTER, 0, 0),
-        SAVE_NONVOL => op(2, save_kind(frame), info, UNIT * slot_at(bytes, i)),
-        SAVE_NONVOL_FAR => op(3, save_kind(frame), info, long_at(bytes, i)),
+        SAVE_NONVOL => op(2, save_kind(frame), info, near_place(bytes, i)),
+        SAVE_NONVOL_FAR => op(3, save_kind(frame), info, far_place(bytes, i)),
         SAVE_XMM128 => op(2, OTHER, 0, 0),
         SAVE_XMM128_FAR => op(3, OTHER, 0, 0),
         PUSH_MACHFRAME => push_machframe(info),

@@ -108,14 +108,14 @@ fn count_ops(part: &[u8], frame: u32, n: usize) -> usize
 {
     let mut i = HEADER;
     let mut left = n;
-    let mut count = 0;
+    let mut ops = 0;
     while 0 < left {
-        let code = code_at(part, i, frame, left);
-        i += SLOT * code.slots;
-        left -= code.slots;
-        count += 1;
+        let op = code_at(part, i, frame, left);
+        i += SLOT * op.slots;
+        left -= op.slots;
+        ops += 1;
     }
-    count
+    ops
 }
 
 // How many words an info has.
@@ -132,10 +132,10 @@ pub(crate) fn count_words(bytes: &[u8]) -> usize
     ensures { λ r. ⌜ r ≡ 4 + length (infosWords (partsOf (now (bytes .entry)))) ⌝ }
 {
     let mut words = 4;
-    let mut i = 0;
-    while i < bytes.len() {
-        words += part_words(&bytes[i..]);
-        i += part_size(&bytes[i..]);
+    let mut at = 0;
+    while at < bytes.len() {
+        words += part_words(&bytes[at..]);
+        at += part_size(&bytes[at..]);
     }
     words
 }

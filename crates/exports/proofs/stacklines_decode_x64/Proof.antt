@@ -3,8 +3,6 @@ use mathlib.Core.Path.{ap, _∙_}
 use Prim.Native.Nat.{ℕ}
 use lib.ListN.{set}
 use borrow.Author.Needs.{needs}
-use Rattle.exports.proofs.store_count.Reads as store-count-reads
-use Rattle.unwind_info.proofs.decode_x64.Reads as decode-x64-reads
 use Rattle.exports.proofs.stacklines_decode_x64.Statement.{statement}
 use Rattle.exports.proofs.stacklines_decode_x64.Tie as tie
 

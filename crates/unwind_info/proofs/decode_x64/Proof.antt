@@ -6,9 +6,6 @@ use borrow.Author.Tests.{leb-true}
 use Rattle.unwind_info.specs.UnwindInfo.{parts, infosWords}
 use Rattle.unwind_info.proofs.Room.{whole, decode-refused, decode-short, decode-filled}
 use borrow.Author.Needs.{needs}
-use Rattle.unwind_info.proofs.fits.Reads as fits-reads
-use Rattle.unwind_info.proofs.part.check_parts.Reads as check-parts-reads
-use Rattle.unwind_info.proofs.write.put_body.Reads as put-body-reads
 use Rattle.unwind_info.proofs.decode_x64.Statement.{statement}
 use Rattle.unwind_info.proofs.decode_x64.Tie as tie
 
@@ -18,6 +15,7 @@ check-parts-requires c κs = search needs
 returns : tie.Need-returns
 returns c =
     let args = c .before .before .before .before .args in
+    let args = args in
     decode-refused (c .before .check-parts .ensures) (c .if1 .taken) (args .begin) (args .end) (args .info-address) (args .body .now)
 
 fits-requires : tie.Need-fits-requires
@@ -28,6 +26,9 @@ put-body-requires c κs =
     let check-parts = c .before .before .before .before .check-parts in
     let if1 = c .before .before .before .if1 in
     let args = c .before .before .before .before .before .before .before .args in
+    let check-parts = check-parts in
+    let if1 = if1 in
+    let args = args in
     (check-parts .ensures .few (if1 .left), (whole (check-parts .ensures) (if1 .left), leb-true (4 + length (infosWords (parts (args .bytes .now)))) (length (args .body .now)) (sym (c .before .before .fits2 .ensures) ∙ c .before .if2 .taken)))
 
 same-length : tie.Need-same-length
@@ -39,12 +40,18 @@ returns-2 c =
     let if1 = c .before .before .before .before .before .before .if1 in
     let fits2 = c .before .before .before .before .before .fits2 in
     let if2 = c .before .before .before .before .if2 in
+    let check-parts = check-parts in
+    let if1 = if1 in
+    let fits2 = fits2 in
+    let if2 = if2 in
     decode-filled (check-parts .ensures) (if1 .left) (sym (fits2 .ensures) ∙ if2 .taken) (c .before .before .put-body .ensures)
 
 returns-3 : tie.Need-returns-3
 returns-3 c =
     let check-parts = c .before .before .before .check-parts in
     let args = c .before .before .before .before .before .before .args in
+    let check-parts = check-parts in
+    let args = args in
     decode-short (check-parts .ensures) (c .before .before .if1 .left) (args .begin) (args .end) (args .info-address) (args .body .now) (sym (c .before .fits2 .ensures) ∙ c .if2 .left)
 
 pub decode-x64-spec : {M : Type 1} → statement M

@@ -4,8 +4,6 @@ use Prim.Native.Nat.{ℕ}
 use lib.Dec.{leb}
 use Rattle.unwind_info.proofs.Room.{whole, body-fits, body-short}
 use native.Mathlib.Omega.{arith}
-use Rattle.unwind_info.proofs.most_words.Reads as most-words-reads
-use Rattle.unwind_info.proofs.write.count_words.Reads as count-words-reads
 use Rattle.unwind_info.proofs.fits.Statement.{statement}
 use Rattle.unwind_info.proofs.fits.Tie as tie
 

@@ -1,9 +1,6 @@
 -- `alloc_large`: by the info.
 use borrow.Author.Tests.{eq-eqb, ne-eqb}
 use borrow.Author.Needs.{needs}
-use Rattle.unwind_info.proofs.code.long_at.Reads as long-at-reads
-use Rattle.unwind_info.proofs.code.op.Reads as op-reads
-use Rattle.unwind_info.proofs.code.slot_at.Reads as slot-at-reads
 use Rattle.unwind_info.proofs.code.alloc_large.Statement.{statement}
 use Rattle.unwind_info.proofs.code.alloc_large.Tie as tie
 
@@ -29,6 +26,8 @@ returns-2 : tie.Need-returns-2
 returns-2 c =
     let args = c .before .before .before .before .before .args in
     let if1 = c .before .before .before .if1 in
+    let args = args in
+    let if1 = if1 in
     rw (ne-eqb (args .info) 0 (if1 .left), eq-eqb (args .info) 1 (c .before .before .if2 .taken), ← c .before .long-at .ensures) (c .op2 .ensures)
 
 op-requires-3 : tie.Need-op-requires-3
@@ -37,6 +36,7 @@ op-requires-3 c κs = search needs
 returns-3 : tie.Need-returns-3
 returns-3 c =
     let args = c .before .before .before .before .args in
+    let args = args in
     rw (ne-eqb (args .info) 0 (c .before .before .if1 .left), ne-eqb (args .info) 1 (c .before .if2 .left)) (c .op3 .ensures)
 
 pub alloc-large-spec : {M : Type 1} → statement M

@@ -3,7 +3,6 @@ use mathlib.Core.Path.{sym}
 use lib.ListN.{List·getD-eq-default}
 use native.Mathlib.Omega.{arith}
 use borrow.Author.Needs.{needs}
-use Rattle.unwind_info.proofs.code.wide.Reads as wide-reads
 use Rattle.unwind_info.proofs.code.byte.Statement.{statement}
 use Rattle.unwind_info.proofs.code.byte.Tie as tie
 

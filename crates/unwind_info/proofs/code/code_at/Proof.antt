@@ -2,9 +2,6 @@
 use Rattle.unwind_info.specs.Index.{code-drop, taken}
 use mathlib.Core.Path.{ap, _∙_}
 use borrow.Author.Needs.{needs}
-use Rattle.unwind_info.proofs.code.byte_in.Reads as byte-in-reads
-use Rattle.unwind_info.proofs.code.code_of.Reads as code-of-reads
-use Rattle.unwind_info.proofs.code.taken.Reads as taken-reads
 use Rattle.unwind_info.proofs.code.code_at.Statement.{statement}
 use Rattle.unwind_info.proofs.code.code_at.Tie as tie
 
@@ -26,6 +23,7 @@ taken-requires c κs = search needs
 returns : tie.Need-returns
 returns c =
     let args = c .before .before .before .before .args in
+    let args = args in
     rw (code-drop (args .frame) (args .part .now) (args .i), ← c .before .before .byte-in .ensures .0) (c .taken .ensures ∙ ap (taken (args .left)) (c .before .code-of .ensures))
 
 pub code-at-spec : {M : Type 1} → statement M

@@ -1,7 +1,6 @@
 -- `long_at`: two slots as a number.
 use Rattle.unwind_info.specs.UnwindInfo.{longAt}
 use borrow.Author.Needs.{needs}
-use Rattle.unwind_info.proofs.code.slot_at.Reads as slot-at-reads
 use Rattle.unwind_info.proofs.code.long_at.Statement.{statement}
 use Rattle.unwind_info.proofs.code.long_at.Tie as tie
 

@@ -1,7 +1,6 @@
 -- `push_machframe`: by the info.
 use borrow.Author.Tests.{le-leb, lt-leb}
 use borrow.Author.Needs.{needs}
-use Rattle.unwind_info.proofs.code.op.Reads as op-reads
 use Rattle.unwind_info.proofs.code.push_machframe.Statement.{statement}
 use Rattle.unwind_info.proofs.code.push_machframe.Tie as tie
 

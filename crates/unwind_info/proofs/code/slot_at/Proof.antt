@@ -2,7 +2,6 @@
 use Rattle.unwind_info.specs.UnwindInfo.{slotAt}
 use native.Mathlib.Omega.{arith}
 use borrow.Author.Needs.{needs}
-use Rattle.unwind_info.proofs.code.byte.Reads as byte-reads
 use Rattle.unwind_info.proofs.code.slot_at.Statement.{statement}
 use Rattle.unwind_info.proofs.code.slot_at.Tie as tie
 

@@ -1,7 +1,5 @@
 -- `taken`: by the slots that are left.
 use borrow.Author.Needs.{needs}
-use Rattle.unwind_info.proofs.code.op.Reads as op-reads
-use Rattle.unwind_info.proofs.code.within.Reads as within-reads
 use Rattle.unwind_info.proofs.code.taken.Statement.{statement}
 use Rattle.unwind_info.proofs.code.taken.Tie as tie
 

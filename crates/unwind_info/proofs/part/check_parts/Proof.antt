@@ -3,9 +3,6 @@ use lib.ListN.{length}
 use Prim.Native.Nat.{_-_}
 use Rattle.unwind_info.proofs.Loops.{rest-is, Checking, check-none, check-more, check-stop, check-end}
 use borrow.Author.Needs.{needs}
-use Rattle.unwind_info.proofs.part.part_number.Reads as part-number-reads
-use Rattle.unwind_info.proofs.part.parts_number.Reads as parts-number-reads
-use Rattle.unwind_info.proofs.part.slot_count.Reads as slot-count-reads
 use Rattle.unwind_info.proofs.part.check_parts.Statement.{statement}
 use Rattle.unwind_info.proofs.part.check_parts.Tie as tie
 
@@ -34,6 +31,8 @@ returns : tie.Need-returns Inv-loop μ-loop
 returns c =
     let args = c .before .before .before .before .before .before .args in
     let loop = c .before .before .before .before .loop in
+    let args = args in
+    let loop = loop in
     rw (c .before .part-number .ensures, rest-is (args .bytes .now) (loop .at)) (check-stop (loop .inv) (search needs) (rw (c .before .part-number .ensures, rest-is (args .bytes .now) (loop .at)) at (c .if1 .taken)))
 
 sub-slot-count : tie.Need-sub-slot-count Inv-loop μ-loop
@@ -71,6 +70,9 @@ loop-again c =
     let args = c .before .before .before .before .before .before .before .before .args in
     let loop = c .before .before .before .before .before .before .loop in
     let part-number = c .before .before .before .part-number in
+    let args = args in
+    let loop = loop in
+    let part-number = part-number in
     rw (c .slot-count .ensures .0, rest-is (args .bytes .now) (loop .at)) (check-more (loop .inv) (search needs) (rw (part-number .ensures, rest-is (args .bytes .now) (loop .at)) at (c .before .before .if1 .left)) (rw (c .slot-count .ensures .0, rest-is (args .bytes .now) (loop .at)) at (c .slot-count .ensures .1)))
 
 parts-number-requires : tie.Need-parts-number-requires Inv-loop μ-loop

@@ -2,8 +2,6 @@
 use Rattle.unwind_info.specs.Index.{is-version, is-short, is-whole}
 use Rattle.unwind_info.specs.UnwindInfo.{byte}
 use borrow.Author.Needs.{needs}
-use Rattle.unwind_info.proofs.code.byte.Reads as byte-reads
-use Rattle.unwind_info.proofs.part.part_size.Reads as part-size-reads
 use Rattle.unwind_info.proofs.part.part_number.Statement.{statement}
 use Rattle.unwind_info.proofs.part.part_number.Tie as tie
 
@@ -20,12 +18,16 @@ returns-2 : tie.Need-returns-2
 returns-2 c =
     let args = c .before .before .before .before .before .args in
     let byte = c .before .before .before .byte in
+    let args = args in
+    let byte = byte in
     is-short (args .part .now) (byte .ensures .0) (c .before .before .part-size .ensures .0) (c .before .if1 .left) (c .if2 .taken)
 
 returns-3 : tie.Need-returns-3
 returns-3 c =
     let args = c .before .before .before .before .before .args in
     let byte = c .before .before .before .byte in
+    let args = args in
+    let byte = byte in
     is-whole (args .part .now) (byte .ensures .0) (c .before .before .part-size .ensures .0) (c .before .if1 .left) (search needs)
 
 pub part-number-spec : {M : Type 1} → statement M

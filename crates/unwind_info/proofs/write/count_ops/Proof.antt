@@ -2,15 +2,14 @@
 use Rattle.unwind_info.proofs.Loops.{CodesLeft, codes-all, code-slots, codes-turn, codes-done}
 use borrow.Author.Needs.{needs}
 use native.Mathlib.Omega.{arith}
-use Rattle.unwind_info.proofs.code.code_at.Reads as code-at-reads
 use Rattle.unwind_info.proofs.write.count_ops.Statement.{statement}
 use Rattle.unwind_info.proofs.write.count_ops.Tie as tie
 
 abbrev Inv-loop : tie.InvT-loop
-Inv-loop part frame n i₀ left₀ count₀ i left count = CodesLeft part frame n i left count
+Inv-loop part frame n i₀ left₀ ops₀ i left ops = CodesLeft part frame n i left ops
 
 abbrev μ-loop : tie.MeasureT-loop
-μ-loop part frame n i₀ left₀ count₀ i left count = left
+μ-loop part frame n i₀ left₀ ops₀ i left ops = left
 
 loop-holds : tie.Need-loop-holds Inv-loop μ-loop
 loop-holds c = codes-all (c .before .args .part .now) (c .before .args .frame) (c .before .args .n) (c .before .pre .1)
@@ -31,8 +30,8 @@ add-i c =
 sub-left : tie.Need-sub-left Inv-loop μ-loop
 sub-left c = omega (arith, code-slots (c .before .before .before .before .loop .inv) (search needs) (c .before .before .code-at .ensures))
 
-add-count : tie.Need-add-count Inv-loop μ-loop
-add-count c = search needs
+add-ops : tie.Need-add-ops Inv-loop μ-loop
+add-ops c = search needs
 
 loop-less : tie.Need-loop-less Inv-loop μ-loop
 loop-less c = omega (arith, code-slots (c .before .before .before .before .loop .inv) (search needs) (c .before .before .code-at .ensures))
@@ -54,7 +53,7 @@ count-ops-spec =
     mul-i
     add-i
     sub-left
-    add-count
+    add-ops
     loop-less
     loop-again
     returns)

@@ -4,16 +4,14 @@ use Prim.Native.Nat.{_-_}
 use Rattle.unwind_info.proofs.Loops.{rest-is, part-there, WordsLeft, words-all, words-turn, words-done}
 use borrow.Author.Needs.{needs}
 use native.Mathlib.Omega.{arith}
-use Rattle.unwind_info.proofs.part.part_size.Reads as part-size-reads
-use Rattle.unwind_info.proofs.write.part_words.Reads as part-words-reads
 use Rattle.unwind_info.proofs.write.count_words.Statement.{statement}
 use Rattle.unwind_info.proofs.write.count_words.Tie as tie
 
 abbrev Inv-loop : tie.InvT-loop
-Inv-loop bytes words₀ i₀ words i = WordsLeft bytes words i
+Inv-loop bytes words₀ at₀ words at = WordsLeft bytes words at
 
 abbrev μ-loop : tie.MeasureT-loop
-μ-loop bytes words₀ i₀ words i = length bytes - i
+μ-loop bytes words₀ at₀ words at = length bytes - at
 
 loop-holds : tie.Need-loop-holds Inv-loop μ-loop
 loop-holds c = words-all (c .before .args .bytes .now) (c .before .pre .0)
@@ -30,7 +28,7 @@ part-part-words-end c = search needs
 part-words-requires : tie.Need-part-words-requires Inv-loop μ-loop
 part-words-requires c κs =
     let args = c .before .before .before .before .args in
-    rw (rest-is (args .bytes .now) (c .before .before .loop .i)) (part-there (c .before .before .loop .inv .parts-left) (search needs))
+    rw (rest-is (args .bytes .now) (c .before .before .loop .at)) (part-there (c .before .before .loop .inv .parts-left) (search needs))
 
 add-words : tie.Need-add-words Inv-loop μ-loop
 add-words c =
@@ -50,8 +48,8 @@ part-part-size-end c = search needs
 part-size-requires : tie.Need-part-size-requires Inv-loop μ-loop
 part-size-requires c κs = search needs
 
-add-i : tie.Need-add-i Inv-loop μ-loop
-add-i c = search needs
+add-at : tie.Need-add-at Inv-loop μ-loop
+add-at c = search needs
 
 loop-less : tie.Need-loop-less Inv-loop μ-loop
 loop-less c = search needs
@@ -60,7 +58,7 @@ loop-again : tie.Need-loop-again Inv-loop μ-loop
 loop-again c =
     let args = c .before .before .before .before .before .before .before .args in
     let loop = c .before .before .before .before .before .loop in
-    rw (c .part-size .ensures .0, rest-is (args .bytes .now) (loop .i)) (words-turn (loop .inv) (search needs) (rw (rest-is (args .bytes .now) (loop .i)) at (c .before .before .part-words .ensures .0)))
+    rw (c .part-size .ensures .0, rest-is (args .bytes .now) (loop .at)) (words-turn (loop .inv) (search needs) (rw (rest-is (args .bytes .now) (loop .at)) at (c .before .before .part-words .ensures .0)))
 
 returns : tie.Need-returns Inv-loop μ-loop
 returns c = words-done (c .before .loop .inv) (search needs)
@@ -81,7 +79,7 @@ count-words-spec =
     part-part-size-start
     part-part-size-end
     part-size-requires
-    add-i
+    add-at
     loop-less
     loop-again
     returns)

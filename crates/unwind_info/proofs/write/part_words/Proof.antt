@@ -3,9 +3,6 @@ use Rattle.unwind_info.specs.UnwindInfo.{codesOf}
 use Rattle.unwind_info.specs.Index.{info-size}
 use native.Mathlib.Omega.{arith}
 use borrow.Author.Needs.{needs}
-use Rattle.unwind_info.proofs.part.save_base.Reads as save-base-reads
-use Rattle.unwind_info.proofs.part.slot_count.Reads as slot-count-reads
-use Rattle.unwind_info.proofs.write.count_ops.Reads as count-ops-reads
 use Rattle.unwind_info.proofs.write.part_words.Statement.{statement}
 use Rattle.unwind_info.proofs.write.part_words.Tie as tie
 

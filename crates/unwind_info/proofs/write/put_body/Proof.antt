@@ -1,8 +1,6 @@
 -- `put_body`: four words, and the infos.
 use Rattle.text.specs.Text.Laws.{_⨾_}
 use borrow.Author.Needs.{needs}
-use Rattle.fill.proofs.put_word.Reads as put-word-reads
-use Rattle.unwind_info.proofs.write.put_parts.Reads as put-parts-reads
 use Rattle.unwind_info.proofs.write.put_body.Statement.{statement}
 use Rattle.unwind_info.proofs.write.put_body.Tie as tie
 

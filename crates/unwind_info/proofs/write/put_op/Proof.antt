@@ -1,7 +1,6 @@
 -- `put_op`: three words.
 use Rattle.text.specs.Text.Laws.{_⨾_}
 use borrow.Author.Needs.{needs}
-use Rattle.fill.proofs.put_word.Reads as put-word-reads
 use Rattle.unwind_info.proofs.write.put_op.Statement.{statement}
 use Rattle.unwind_info.proofs.write.put_op.Tie as tie
 

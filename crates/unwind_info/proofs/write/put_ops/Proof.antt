@@ -3,9 +3,6 @@ use Rattle.text.specs.Text.Laws.{put-length}
 use Rattle.unwind_info.proofs.Loops.{OpsLeft, ops-all, code-slots, op-room, push-taken, ops-turn, ops-done}
 use borrow.Author.Needs.{needs}
 use native.Mathlib.Omega.{arith}
-use Rattle.unwind_info.proofs.code.byte_in.Reads as byte-in-reads
-use Rattle.unwind_info.proofs.code.code_at.Reads as code-at-reads
-use Rattle.unwind_info.proofs.write.put_op.Reads as put-op-reads
 use Rattle.unwind_info.proofs.write.put_ops.Statement.{statement}
 use Rattle.unwind_info.proofs.write.put_ops.Tie as tie
 

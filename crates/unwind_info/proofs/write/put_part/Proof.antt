@@ -5,13 +5,6 @@ use Rattle.unwind_info.specs.Index.{info-size}
 use Rattle.unwind_info.proofs.Loops.{info-room, info-put}
 use native.Mathlib.Omega.{arith}
 use borrow.Author.Needs.{needs}
-use Rattle.fill.proofs.put_word.Reads as put-word-reads
-use Rattle.fill.proofs.set_word.Reads as set-word-reads
-use Rattle.unwind_info.proofs.part.frame_offset.Reads as frame-offset-reads
-use Rattle.unwind_info.proofs.part.frame_register.Reads as frame-register-reads
-use Rattle.unwind_info.proofs.part.save_base.Reads as save-base-reads
-use Rattle.unwind_info.proofs.part.slot_count.Reads as slot-count-reads
-use Rattle.unwind_info.proofs.write.put_ops.Reads as put-ops-reads
 use Rattle.unwind_info.proofs.write.put_part.Statement.{statement}
 use Rattle.unwind_info.proofs.write.put_part.Tie as tie
 

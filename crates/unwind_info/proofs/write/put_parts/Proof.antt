@@ -5,8 +5,6 @@ use Rattle.text.specs.Text.Laws.{put-length}
 use Rattle.unwind_info.proofs.Loops.{rest-is, part-there, InfosLeft, infos-all, part-room, infos-turn, infos-done}
 use borrow.Author.Needs.{needs}
 use native.Mathlib.Omega.{arith}
-use Rattle.unwind_info.proofs.part.part_size.Reads as part-size-reads
-use Rattle.unwind_info.proofs.write.put_part.Reads as put-part-reads
 use Rattle.unwind_info.proofs.write.put_parts.Statement.{statement}
 use Rattle.unwind_info.proofs.write.put_parts.Tie as tie
 
