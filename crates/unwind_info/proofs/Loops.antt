@@ -143,7 +143,8 @@ module _ {bs : List ℕ} {f n i left count : ℕ} {c : UnwindCode} (l : CodesLef
   pub codes-turn : CodesLeft bs f n (i + 2 * c .slots) (left - c .slots) (count + 1)
   codes-turn =
       let t = code-slots in
-      let first : length (codesIn left f left (drop i bs)) ≡ suc (length (codesIn (left - c .slots) f (left - c .slots) (drop (2 * c .slots) (drop i bs)))) = rw (← e) at (codes-first f left (drop i bs) h .count) in
+      let first : length (codesIn left f left (drop i bs)) ≡ suc (length (codesIn (left - c .slots) f (left - c .slots) (drop (2 * c .slots) (drop i bs)))) =
+      rw (← e) at (codes-first f left (drop i bs) h .count) in
       record {
         there = l .there;
         place = omega (arith, l .place, t);

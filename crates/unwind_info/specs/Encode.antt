@@ -315,7 +315,9 @@ one-part : (ws : List ℕ) → T (encodable ws) → parts (encode ws) ≡ encode
 unfolding encode
 one-part ws h =
     let e = ops-even (word ws 4) (word ws 6) (drop 7 ws) (encodes ws h .ops) in
-    parts-first (encode ws) (omega arith) ∙ ap (λ (l : List ℕ). encode ws ∷ parts l) (drop-of-length-le (encode ws) {i = partSize (encode ws)} (omega (arith, e))) ∙ ap (λ (l : List (List ℕ)). encode ws ∷ l) parts-none
+    parts-first (encode ws) (omega arith)
+    ∙ ap (λ (l : List ℕ). encode ws ∷ parts l) (drop-of-length-le (encode ws) {i = partSize (encode ws)} (omega (arith, e)))
+    ∙ ap (λ (l : List (List ℕ)). encode ws ∷ l) parts-none
 
 none-refused : (ws : List ℕ) → T (encodable ws) → x64Number (encode ws) ≡ 0
 unfolding encode x64Number firstRefused partNumber

@@ -22,7 +22,11 @@ returns : tie.Need-returns
 returns c =
     let decode-x64 = c .before .before .before .before .before .before .decode-x64 in
     let args = c .before .before .before .before .before .before .before .before .before .before .before .args in
-    record { number-is = decode-x64 .ensures .number-is; room-is = decode-x64 .ensures .room-is; count-is = c .before .before .store-count .ensures ∙ ap (λ (n : ℕ). set (args .count .now) 0 n) (decode-x64 .ensures .filled-is) }
+    record {
+      number-is = decode-x64 .ensures .number-is;
+      room-is = decode-x64 .ensures .room-is;
+      count-is = c .before .before .store-count .ensures ∙ ap (λ (n : ℕ). set (args .count .now) 0 n) (decode-x64 .ensures .filled-is);
+    }
 
 pub stacklines-decode-x64-spec : {M : Type 1} → statement M
 stacklines-decode-x64-spec =

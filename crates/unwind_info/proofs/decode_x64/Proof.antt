@@ -28,8 +28,13 @@ put-body-requires c κs =
     let args = c .before .before .before .before .before .before .before .args in
     let check-parts = check-parts in
     let if1 = if1 in
-    let args = args in
-    (check-parts .ensures .few (if1 .left), (whole (check-parts .ensures) (if1 .left), leb-true (4 + length (infosWords (parts (args .bytes .now)))) (length (args .body .now)) (sym (c .before .before .fits2 .ensures) ∙ c .before .if2 .taken)))
+    let args = args in (
+      check-parts .ensures .few (if1 .left),
+      (
+        whole (check-parts .ensures) (if1 .left),
+        leb-true (4 + length (infosWords (parts (args .bytes .now)))) (length (args .body .now)) (sym (c .before .before .fits2 .ensures) ∙ c .before .if2 .taken),
+      ),
+    )
 
 same-length : tie.Need-same-length
 same-length c = search needs

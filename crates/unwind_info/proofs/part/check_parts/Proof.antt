@@ -33,7 +33,8 @@ returns c =
     let loop = c .before .before .before .before .loop in
     let args = args in
     let loop = loop in
-    rw (c .before .part-number .ensures, rest-is (args .bytes .now) (loop .at)) (check-stop (loop .inv) (search needs) (rw (c .before .part-number .ensures, rest-is (args .bytes .now) (loop .at)) at (c .if1 .taken)))
+    rw (c .before .part-number .ensures, rest-is (args .bytes .now) (loop .at))
+    (check-stop (loop .inv) (search needs) (rw (c .before .part-number .ensures, rest-is (args .bytes .now) (loop .at)) at (c .if1 .taken)))
 
 sub-slot-count : tie.Need-sub-slot-count Inv-loop μ-loop
 sub-slot-count c = search needs
@@ -73,7 +74,9 @@ loop-again c =
     let args = args in
     let loop = loop in
     let part-number = part-number in
-    rw (c .slot-count .ensures .0, rest-is (args .bytes .now) (loop .at)) (check-more (loop .inv) (search needs) (rw (part-number .ensures, rest-is (args .bytes .now) (loop .at)) at (c .before .before .if1 .left)) (rw (c .slot-count .ensures .0, rest-is (args .bytes .now) (loop .at)) at (c .slot-count .ensures .1)))
+    rw (c .slot-count .ensures .0, rest-is (args .bytes .now) (loop .at))
+    (check-more (loop .inv) (search needs) (rw (part-number .ensures, rest-is (args .bytes .now) (loop .at)) at (c .before .before .if1 .left))
+    (rw (c .slot-count .ensures .0, rest-is (args .bytes .now) (loop .at)) at (c .slot-count .ensures .1)))
 
 parts-number-requires : tie.Need-parts-number-requires Inv-loop μ-loop
 parts-number-requires c κs = search needs

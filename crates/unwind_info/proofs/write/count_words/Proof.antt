@@ -58,7 +58,8 @@ loop-again : tie.Need-loop-again Inv-loop μ-loop
 loop-again c =
     let args = c .before .before .before .before .before .before .before .args in
     let loop = c .before .before .before .before .before .loop in
-    rw (c .part-size .ensures .0, rest-is (args .bytes .now) (loop .at)) (words-turn (loop .inv) (search needs) (rw (rest-is (args .bytes .now) (loop .at)) at (c .before .before .part-words .ensures .0)))
+    rw (c .part-size .ensures .0, rest-is (args .bytes .now) (loop .at))
+    (words-turn (loop .inv) (search needs) (rw (rest-is (args .bytes .now) (loop .at)) at (c .before .before .part-words .ensures .0)))
 
 returns : tie.Need-returns Inv-loop μ-loop
 returns c = words-done (c .before .loop .inv) (search needs)

@@ -24,8 +24,10 @@ add-result c = search needs
 returns : tie.Need-returns
 unfolding codesOf
 returns c =
-    let args = c .before .before .before .before .args in
-    (omega (arith, info-size (args .part .now), rw (c .before .slot-count .ensures .0, c .before .before .save-base .ensures) at (c .count-ops .ensures .0)), omega (arith, c .count-ops .ensures .1, c .before .slot-count .ensures .1))
+    let args = c .before .before .before .before .args in (
+      omega (arith, info-size (args .part .now), rw (c .before .slot-count .ensures .0, c .before .before .save-base .ensures) at (c .count-ops .ensures .0)),
+      omega (arith, c .count-ops .ensures .1, c .before .slot-count .ensures .1),
+    )
 
 pub part-words-spec : {M : Type 1} → statement M
 part-words-spec =

@@ -13,7 +13,8 @@ abbrev μ-loop : tie.MeasureT-loop
 μ-loop out₀ at part frame n p₀ i₀ left₀ count₀ out p i left count = left
 
 loop-holds : tie.Need-loop-holds Inv-loop μ-loop
-loop-holds c = ops-all (c .before .before .args .part .now) (c .before .before .args .frame) (c .before .before .args .n) (c .before .before .pre .1 .0) (c .before .before .pre .1 .1) (omega arith)
+loop-holds c =
+    ops-all (c .before .before .args .part .now) (c .before .before .args .frame) (c .before .before .args .n) (c .before .before .pre .1 .0) (c .before .before .pre .1 .1) (omega arith)
 
 add-byte-in : tie.Need-add-byte-in Inv-loop μ-loop
 add-byte-in c = search needs
@@ -25,7 +26,8 @@ put-op-requires : tie.Need-put-op-requires Inv-loop μ-loop
 put-op-requires c κs =
     let loop = c .before .before .before .before .loop in
     let args = c .before .before .before .before .before .before .before .args in
-    op-room (loop .inv) (search needs) (push-taken (args .part .now) (loop .i) (loop .left) (c .before .before .byte-in .result) (args .frame) (search needs) (c .before .before .byte-in .ensures .0) (c .before .if1 .taken))
+    op-room (loop .inv) (search needs)
+    (push-taken (args .part .now) (loop .i) (loop .left) (c .before .before .byte-in .result) (args .frame) (search needs) (c .before .before .byte-in .ensures .0) (c .before .if1 .taken))
 
 add-i : tie.Need-add-i Inv-loop μ-loop
 add-i c = search needs
@@ -45,7 +47,8 @@ loop-again c =
     let args = c .before .before .before .before .before .before .before .before .before .before .args in
     let byte-in = c .before .before .before .before .before .byte-in in
     let if1 = c .before .before .before .before .if1 in
-    ops-turn (loop .inv) (search needs) (push-taken (args .part .now) (loop .i) (loop .left) (byte-in .result) (args .frame) (search needs) (byte-in .ensures .0) (if1 .taken)) (c .before .before .put-op .ensures)
+    ops-turn (loop .inv) (search needs)
+    (push-taken (args .part .now) (loop .i) (loop .left) (byte-in .result) (args .frame) (search needs) (byte-in .ensures .0) (if1 .taken)) (c .before .before .put-op .ensures)
 
 code-at-requires : tie.Need-code-at-requires Inv-loop μ-loop
 code-at-requires c κs = search needs

@@ -40,12 +40,21 @@ slot-count-requires c κs = search needs
 
 put-ops-requires : tie.Need-put-ops-requires
 put-ops-requires c κs =
-    let pre = c .before .before .before .before .before .before .before .before .before .before .before .before .before .before .before .before .before .before .before .pre in
-    let args = c .before .before .before .before .before .before .before .before .before .before .before .before .before .before .before .before .before .before .before .args in
+    let pre =
+    c .before .before .before .before .before .before .before .before .before
+    .before .before .before .before .before .before .before .before .before .before .pre in
+    let args =
+    c .before .before .before .before .before .before .before .before .before
+    .before .before .before .before .before .before .before .before .before .before .args in
     let put-word = c .before .before .before .before .before .before .before .before .before .before .before .before .before .before .put-word in
     let put-word2 = c .before .before .before .before .before .before .before .before .before .put-word2 in
-    let put-word3 = c .before .before .before .before .before .put-word3 in
-    (c .slot-count .ensures .1, (omega (arith, pre .0, c .slot-count .ensures .0), info-room (args .part .now) (put-word .ensures) (put-word2 .ensures) (put-word3 .ensures) (pre .1) (c .before .save-base .ensures) (c .slot-count .ensures .0)))
+    let put-word3 = c .before .before .before .before .before .put-word3 in (
+      c .slot-count .ensures .1,
+      (
+        omega (arith, pre .0, c .slot-count .ensures .0),
+        info-room (args .part .now) (put-word .ensures) (put-word2 .ensures) (put-word3 .ensures) (pre .1) (c .before .save-base .ensures) (c .slot-count .ensures .0),
+      ),
+    )
 
 cast-set-word : tie.Need-cast-set-word
 cast-set-word c = search needs
@@ -59,16 +68,26 @@ same-length c = search needs
 returns : tie.Need-returns
 unfolding codesOf
 returns c =
-    let args = c .before .before .before .before .before .before .before .before .before .before .before .before .before .before .before .before .before .before .before .before .before .before .before .before .before .before .before .args in
-    let put-word = c .before .before .before .before .before .before .before .before .before .before .before .before .before .before .before .before .before .before .before .before .before .before .put-word in
+    let args =
+    c .before .before .before .before .before .before .before .before .before .before .before .before .before
+    .before .before .before .before .before .before .before .before .before .before .before .before .before .before .args in
+    let put-word =
+    c .before .before .before .before .before .before .before .before .before .before .before
+    .before .before .before .before .before .before .before .before .before .before .before .put-word in
     let put-word2 = c .before .before .before .before .before .before .before .before .before .before .before .before .before .before .before .before .before .put-word2 in
     let put-word3 = c .before .before .before .before .before .before .before .before .before .before .before .before .before .put-word3 in
     let slot-count = c .before .before .before .before .before .before .before .before .slot-count in
     let save-base = c .before .before .before .before .before .before .before .before .before .save-base in
     let put-ops = c .before .before .before .before .before .before .before .put-ops in
-    let frame-register = c .before .before .before .before .before .before .before .before .before .before .before .before .before .before .before .before .before .before .before .before .before .before .before .frame-register in
-    let frame-offset = c .before .before .before .before .before .before .before .before .before .before .before .before .before .before .before .before .before .before .frame-offset in
-    info-put (args .part .now) (put-word .ensures) (put-word2 .ensures) (put-word3 .ensures) (rw (slot-count .ensures .0, save-base .ensures) at (put-ops .ensures .0)) (c .before .before .set-word .ensures) (frame-register .ensures) (frame-offset .ensures) (rw (slot-count .ensures .0, save-base .ensures) at (put-ops .ensures .1 .0))
+    let frame-register =
+    c .before .before .before .before .before .before .before .before .before .before .before
+    .before .before .before .before .before .before .before .before .before .before .before .before .frame-register in
+    let frame-offset =
+    c .before .before .before .before .before .before .before .before .before
+    .before .before .before .before .before .before .before .before .before .frame-offset in
+    info-put (args .part .now) (put-word .ensures) (put-word2 .ensures) (put-word3 .ensures)
+    (rw (slot-count .ensures .0, save-base .ensures) at (put-ops .ensures .0)) (c .before .before .set-word .ensures) (frame-register .ensures) (frame-offset .ensures)
+    (rw (slot-count .ensures .0, save-base .ensures) at (put-ops .ensures .1 .0))
 
 pub put-part-spec : {M : Type 1} → statement M
 put-part-spec =
