@@ -61,7 +61,8 @@ allocLarge i near far = cond (eqb i 0) (code 2 2 0 (8 * near)) (cond (eqb i 1) (
 abbrev pub pushMachframe : ℕ → UnwindCode
 pushMachframe i = cond (leb i 1) (code 1 6 0 i) undecodable
 
--- the page's table by operation code: f the frame register, i the info, near the slot behind the code's own, far the two slots behind it
+-- the page's table by operation code, each with slots, kind, register and value: f the frame register, i the info, near the slot behind the
+-- code's own, far the two slots behind it
 unfoldable pub codes : ℕ → ℕ → ℕ → ℕ → List UnwindCode
 codes f i near far =
     code 1 1 i 0  -- 0 PUSH_NONVOL

@@ -3,11 +3,9 @@ use Prim.Native.Nat.{ℕ, zero, suc}
 use mathlib.Core.Bool.{Bool, _&&_}
 use mathlib.Core.List.{List, [], _∷_, _++_}
 use lib.Dec.{T, eqb}
-use lib.ListN.{replicate}
 use Rattle.text.specs.Tests.{all, eqw}
 use Rattle.fill.specs.Fill.{Fill}
-use Rattle.unwind_info.specs.UnwindInfo.{slotAt, longAt, codes, codeAt, codesIn, codesOf, opWords, infoWords, partsIn, infosWords, x64Body}
-use Rattle.unwind_info.specs.UnwindInfo.{partNumber, firstRefused, x64Number, decoded}
+use Rattle.unwind_info.specs.UnwindInfo.{decoded, UnwindInfo·open}
 
 -- bytes of a function from 4096 to 4160 with its info at 20480, the room's length, and what the call comes to
 pub record Case : Type 0 where
@@ -73,5 +71,5 @@ passes c =
     eqb (f .number) (c .number) && eqw (f .placed) (c .words)
 
 pub worked : T (all passes cases)
-unfolding many cases passes slotAt longAt codes codeAt codesIn codesOf opWords infoWords partsIn infosWords x64Body partNumber firstRefused x64Number decoded
+unfolding many cases passes UnwindInfo·open
 worked = tt
