@@ -6,7 +6,7 @@ use mathlib.Core.List.{List, [], _∷_, _++_}
 use Prim.Native.Nat.{ℕ, zero, suc, _+_, _-_, _*_, _/_, _%_, _≤_, _<_}
 use native.Mathlib.Omega.{arith}
 use lib.ListN.{length, getD, take, drop}
-use lib.Seq.{getD-take, getD-drop}
+use lib.Seq.{getD-take, getD-drop, drop-drop}
 use lib.Dec.{T, eqb, ltb, leb}
 use borrow.Author.Tests.{eqb-true}
 use Rattle.fill.specs.Fill.{Fill}
@@ -201,3 +201,51 @@ same-parts (suc k) (b ∷ bs) (c ∷ cs) a =
 pub unread : (bs cs : List ℕ) → length bs ≡ length cs → AlikeParts (length bs) bs cs → (b e a room : ℕ) → decoded bs b e a room ≡ decoded cs b e a room
 unfolding decoded x64Number x64Body
 unread bs cs l h b e a room = let s = same-parts (length bs) bs cs h in rw (s .number, s .count, s .words, l)
+
+-- ---- bytes are alike themselves, and where only the first part's flags and prolog size differ
+
+codes-alike : (k f n : ℕ) (bs : List ℕ) → AlikeCodes k f n bs bs
+unfolding AlikeCodes
+codes-alike zero f n bs = tt
+codes-alike (suc k) f zero bs = tt
+codes-alike (suc k) f (suc n) bs = (
+  record { operation = refl; info = λ h. refl; slots-behind = refl },
+  λ h. codes-alike k f (suc n - codeAt f bs .slots) (drop (2 * codeAt f bs .slots) bs),
+)
+
+parts-alike : (k : ℕ) (bs : List ℕ) → AlikeParts k bs bs
+unfolding AlikeParts
+parts-alike zero bs = tt
+parts-alike (suc k) [] = tt
+parts-alike (suc k) (b ∷ bs) = (
+  record {
+    length-is = refl;
+    version-is = refl;
+    count-is = refl;
+    frame-is = refl;
+    codes-are = codes-alike (slotCount (b ∷ bs)) (byte (b ∷ bs) 3 % 16) (slotCount (b ∷ bs)) (drop 4 (b ∷ bs));
+  },
+  parts-alike k (drop (partSize (b ∷ bs)) (b ∷ bs)),
+)
+
+head-alike : (v w p q : ℕ) (bs : List ℕ) → v % 8 ≡ w % 8 → AlikeParts (length (v ∷ p ∷ bs)) (v ∷ p ∷ bs) (w ∷ q ∷ bs)
+unfolding AlikeParts
+head-alike v w p q bs h = (
+  record {
+    length-is = refl;
+    version-is = h;
+    count-is = refl;
+    frame-is = refl;
+    codes-are = codes-alike n (byte (v ∷ p ∷ bs) 3 % 16) n (drop 4 (v ∷ p ∷ bs));
+  },
+  rw (behind v p, behind w q) (parts-alike (suc (length bs)) (drop (2 + 2 * n) bs)),
+)
+  where
+    n : ℕ
+    n = slotCount (v ∷ p ∷ bs)
+
+    behind : (x y : ℕ) → drop (4 + 2 * n) (x ∷ y ∷ bs) ≡ drop (2 + 2 * n) bs
+    behind x y = let z : 4 + 2 * n ≡ 2 + (2 + 2 * n) = omega arith in rw z (sym (drop-drop (2 + 2 * n) 2 (x ∷ y ∷ bs)))
+
+pub unread-head : (v w p q : ℕ) (bs : List ℕ) → v % 8 ≡ w % 8 → (b e a room : ℕ) → decoded (v ∷ p ∷ bs) b e a room ≡ decoded (w ∷ q ∷ bs) b e a room
+unread-head v w p q bs h b e a room = unread (v ∷ p ∷ bs) (w ∷ q ∷ bs) refl (head-alike v w p q bs h) b e a room
