@@ -2,11 +2,11 @@
 use mathlib.Core.Path.{_≡_, refl, sym, ap, _∙_}
 use mathlib.Core.Bool.{Bool, true, false, cond, _&&_}
 use mathlib.Core.List.{List, [], _∷_, _++_}
-use Prim.Native.Nat.{ℕ, zero, suc, _+_, _-_, _*_, _/_, _%_, _≤_, _<_, min}
+use Prim.Native.Nat.{ℕ, zero, suc, _+_, _-_, _*_, _/_, _%_, _≤_, _<_}
 use native.Mathlib.Omega.{arith}
 use lib.ListN.{length, take, drop, set, length-append, length-drop, drop-of-length-le}
 use lib.Seq.{drop-drop, take-all}
-use lib.Dec.{eqb, leb, eqb·suc-zero}
+use lib.Dec.{eqb, leb}
 use borrow.Author.Tests.{eq-eqb, ne-eqb, le-leb, leb-true}
 use Rattle.text.specs.Text.{MAX, Put, Left}
 use Rattle.text.specs.Text.Laws.{_⨾_, put-length, left-all, left-put, left-as, left-none}
@@ -15,7 +15,7 @@ use Rattle.unwind_info.specs.declared.UnwindCode.{UnwindCode}
 use Rattle.unwind_info.specs.declared.Checked.{Checked}
 use Rattle.unwind_info.specs.UnwindInfo.{byte, slotCount, frameRegister, frameOffset, partSize, code, codes, codeAt, codesIn, codesOf, opWords, infoWords, parts, partsIn, infosWords}
 use Rattle.unwind_info.specs.UnwindInfo.{partNumber, firstRefused, countNumber, x64Number}
-use Rattle.unwind_info.specs.Index.{taken, taken-slots, codes-first, code-drop, info-length, parts-first, parts-none, part-whole, Checks}
+use Rattle.unwind_info.specs.Index.{taken, taken-slots, codes-first, code-drop, info-length, parts-first, parts-none, part-whole, zero-both, Checks}
 
 -- the part of a slice from a place to its end, as code cuts it out
 pub rest-is : (bs : List ℕ) (i : ℕ) → take (length bs - i) (drop i bs) ≡ drop i bs
@@ -43,11 +43,7 @@ refused-here p ps e = rw (ne-eqb (partNumber p) 0 e)
 
 none-refused : (p : List ℕ) (ps : List (List ℕ)) → firstRefused (p ∷ ps) ≡ 0 → partNumber p ≡ 0
 unfolding firstRefused
-none-refused p ps e = go (partNumber p) refl e
-  where
-    go : (n : ℕ) → partNumber p ≡ n → cond (eqb n 0) (firstRefused ps) n ≡ 0 → n ≡ 0
-    go zero q h = refl
-    go (suc n) q h = absurd (omega (arith, rw (eqb·suc-zero n) at h))
+none-refused p ps e = zero-both (partNumber p) (firstRefused ps) e .0
 
 -- ---- the headers
 
@@ -197,10 +193,10 @@ ops-done {bs} {d} {d₁} {f} {n} {at} {p} {i} {left} {count} l h =
 -- an info put word by word, its operation count last
 pub info-put : {d d₁ d₂ d₃ d₄ d₅ : List ℕ} {at p q s r f o n : ℕ} (part : List ℕ) → Put d at (f ∷ []) d₁ p → Put d₁ p (o ∷ []) d₂ q → Put d₂ q (0 ∷ []) d₃ s
     → Put d₃ s (opWords (codesOf part)) d₄ r → d₅ ≡ set d₄ q n → f ≡ frameRegister part → o ≡ frameOffset part → n ≡ length (codesOf part)
-    → Put d at (infoWords part) d₅ r
+    → at + length (infoWords part) ≤ length d → Put d at (infoWords part) d₅ r
 unfolding infoWords
-info-put {d} {d₁} {d₂} {d₃} {d₄} {d₅} {at} {p} {q} {s} {r} {f} {o} {n} part x y z w e ef eo en =
-    let k : q ≡ min (at + 2) MAX = omega (arith, x .next, y .next) in
+info-put {d} {d₁} {d₂} {d₃} {d₄} {d₅} {at} {p} {q} {s} {r} {f} {o} {n} part x y z w e ef eo en h =
+    let k : q ≡ at + 2 = omega (arith, x .next, y .next, x .short, h) in
     rw (e, ← ef, ← eo, ← en, k) (third n (x ⨾ y ⨾ z ⨾ w))
 
 -- where it fits, its operations fit behind the three words before them

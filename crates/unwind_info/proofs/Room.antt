@@ -5,7 +5,7 @@ use mathlib.Core.List.{List, [], _∷_, _++_}
 use Prim.Native.Nat.{ℕ, zero, suc, _+_, _*_, _^_, _≤_, _<_}
 use native.Mathlib.Omega.{arith}
 use lib.ListN.{length}
-use lib.Dec.{eqb, leb, eqb·suc-zero}
+use lib.Dec.{leb}
 use borrow.Author.Tests.{eq-eqb, ne-eqb, le-leb, leb-true, leb-false}
 use Rattle.text.specs.Text.{Put}
 use Rattle.text.specs.Text.Laws.{put-as}
@@ -13,15 +13,11 @@ use Rattle.fill.specs.Fill.{refused, roomed, Fills}
 use Rattle.fill.specs.Fill.Laws.{fills-refused, fills-put, fills-short}
 use Rattle.unwind_info.specs.declared.Checked.{Checked}
 use Rattle.unwind_info.specs.UnwindInfo.{parts, infosWords, x64Body, firstRefused, countNumber, x64Number, decoded}
-use Rattle.unwind_info.specs.Index.{Checks}
+use Rattle.unwind_info.specs.Index.{zero-both, Checks}
 
 first-of-none : (bs : List ℕ) → x64Number bs ≡ 0 → firstRefused (parts bs) ≡ 0
 unfolding x64Number
-first-of-none bs e = go (firstRefused (parts bs)) e
-  where
-    go : (n : ℕ) → cond (eqb n 0) (countNumber (length (parts bs))) n ≡ 0 → n ≡ 0
-    go zero h = refl
-    go (suc n) h = absurd (omega (arith, rw (eqb·suc-zero n) at h))
+first-of-none bs e = zero-both (firstRefused (parts bs)) (countNumber (length (parts bs))) e .0
 
 module _ {bs : List ℕ} {ch : Checked} (g : Checks bs ch) (z : ch .number ≡ 0) where
   -- no part is turned away

@@ -1,14 +1,14 @@
 -- The forms that the code's loops walk: a code with the slots that it takes, the codes and parts that are left. And what the check of the headers gives.
 use mathlib.Core.Path.{_≡_, refl, sym, ap, _∙_}
-use mathlib.Core.Bool.{Bool, true, false, cond, _&&_, _||_, false≢true}
+use mathlib.Core.Bool.{Bool, true, false, cond, _&&_, _||_}
 use mathlib.Core.List.{List, [], _∷_, _++_}
 use Prim.Native.Nat.{ℕ, zero, suc, _+_, _-_, _*_, _/_, _%_, _≤_, _<_}
 use native.Mathlib.Omega.{arith}
 use native.Mathlib.Decide.{decLt}
 use lib.ListN.{length, getD, drop, length-append, length-drop, List·getD-eq-default}
 use lib.Seq.{getD-drop, drop-drop, drop-length}
-use lib.Dec.{T, eqb, ltb, leb, eqb→eq}
-use borrow.Author.Tests.{leb-true, lt-ltb, le-ltb, ltb-false, eq-eqb, ne-eqb}
+use lib.Dec.{T, eqb, ltb, leb, eqb→eq, leb→le, eqb·suc-zero}
+use borrow.Author.Tests.{lt-ltb, le-ltb, ltb-false, eq-eqb, ne-eqb}
 use Rattle.text.specs.Tests.{and-l, and-r, at, Others, others}
 use Rattle.unwind_info.specs.declared.UnwindCode.{UnwindCode}
 use Rattle.unwind_info.specs.declared.Checked.{Checked}
@@ -62,22 +62,14 @@ no-code f i near far c h = elim (decLt c 11) [
 abbrev pub taken : ℕ → UnwindCode → UnwindCode
 taken n c = cond (within n c) c (code n 8 0 0)
 
-and-left : (a b : Bool) → (a && b) ≡ true → a ≡ true
-and-left true b e = refl
-and-left false b e = e
-
-and-right : (a b : Bool) → (a && b) ≡ true → b ≡ true
-and-right true b e = e
-and-right false b e = absurd (false≢true e)
-
-pub within-slots : (n : ℕ) (c : UnwindCode) → within n c ≡ true → (1 ≤ c .slots) × (c .slots ≤ n)
-within-slots n c e = (leb-true 1 (c .slots) (and-left (leb 1 (c .slots)) _ e), leb-true (c .slots) n (and-right (leb 1 (c .slots)) _ e))
+pub within-slots : (n : ℕ) (c : UnwindCode) → T (within n c) → (1 ≤ c .slots) × (c .slots ≤ n)
+within-slots n c h = (leb→le 1 (c .slots) (and-l (leb 1 (c .slots)) _ h), leb→le (c .slots) n (and-r (leb 1 (c .slots)) _ h))
 
 pub taken-slots : (n : ℕ) (c : UnwindCode) → 0 < n → (1 ≤ taken n c .slots) × (taken n c .slots ≤ n)
 taken-slots n c h = go (within n c) refl
   where
     go : (t : Bool) → within n c ≡ t → (1 ≤ cond t c (code n 8 0 0) .slots) × (cond t c (code n 8 0 0) .slots ≤ n)
-    go true e = within-slots n c e
+    go true e = within-slots n c (rw e tt)
     go false e = (omega arith, omega arith)
 
 module _ (f : ℕ) where
@@ -100,7 +92,7 @@ module _ (f : ℕ) where
           → (1 ≤ c .slots → codesIn k f (suc n - c .slots) (drop (2 * c .slots) bs) ≡ codesIn m f (suc n - c .slots) (drop (2 * c .slots) bs))
           → cond t (c ∷ codesIn k f (suc n - c .slots) (drop (2 * c .slots) bs)) (undecodable ∷ [])
           ≡ cond t (c ∷ codesIn m f (suc n - c .slots) (drop (2 * c .slots) bs)) (undecodable ∷ [])
-      go true e ih = ap (λ (l : List UnwindCode). c ∷ l) (ih (within-slots (suc n) c e .0))
+      go true e ih = ap (λ (l : List UnwindCode). c ∷ l) (ih (within-slots (suc n) c (rw e tt) .0))
       go false e ih = refl
 
   -- what is left behind the first code
@@ -122,7 +114,7 @@ module _ (f : ℕ) where
 
       go : (t : Bool) → within (suc n) c ≡ t → First (suc n) bs
       go true e =
-          let s = within-slots (suc n) c e in
+          let s = within-slots (suc n) c (rw e tt) in
           let same = codes-same n (suc n - c .slots) (suc n - c .slots) (drop (2 * c .slots) bs) (omega (arith, s)) (omega arith) in
           record {
             words = rw e (ap (λ (l : List UnwindCode). c .kind ∷ c .register ∷ c .value ∷ opWords l) same);
@@ -144,7 +136,7 @@ codes-few (suc k) f (suc n) bs = go (within (suc n) c) refl (codes-few k f (suc 
 
     go : (t : Bool) → within (suc n) c ≡ t → length (codesIn k f (suc n - c .slots) (drop (2 * c .slots) bs)) ≤ suc n - c .slots
         → length (cond t (c ∷ codesIn k f (suc n - c .slots) (drop (2 * c .slots) bs)) (undecodable ∷ [])) ≤ suc n
-    go true e ih = omega (arith, ih, within-slots (suc n) c e)
+    go true e ih = omega (arith, ih, within-slots (suc n) c (rw e tt))
     go false e ih = omega arith
 
 pub ops-length : (cs : List UnwindCode) → length (opWords cs) ≡ 3 * length cs
@@ -210,6 +202,11 @@ is-short {v} {n} bs e s h l = rw (← e, eq-eqb (v % 8) 1 h, lt-ltb (length bs) 
 pub is-whole : {v n : ℕ} (bs : List ℕ) → v ≡ byte bs 0 → n ≡ partSize bs → v % 8 ≡ 1 → n ≤ length bs → 0 ≡ partNumber bs
 unfolding partNumber
 is-whole {v} {n} bs e s h l = rw (← e, eq-eqb (v % 8) 1 h, le-ltb (length bs) (partSize bs) (omega (arith, s, l)))
+
+-- a number that is looked at first, and x only where it is 0: where neither says anything, both are 0
+pub zero-both : (n x : ℕ) → cond (eqb n 0) x n ≡ 0 → (n ≡ 0) × (x ≡ 0)
+zero-both zero x e = (refl, e)
+zero-both (suc n) x e = absurd (omega (arith, rw (eqb·suc-zero n) at e))
 
 -- ---- the check of the headers
 

@@ -69,7 +69,8 @@ module _ (f i i′ near near′ far far′ : ℕ) where
   entry-of c zero (x ∷ xs) (y ∷ ys) h e p q = let z : c + 0 ≡ c = omega arith in h .0 (rw z at e) p q
   entry-of c (suc n) (x ∷ xs) (y ∷ ys) h e p q = let z : c + suc n ≡ suc c + n = omega arith in entry-of (suc c) n xs ys (h .1) (rw z at e) p q
 
-  alloc : i ≡ i′ → (allocLarge i near far .slots ≡ 2 → near ≡ near′) → (allocLarge i near far .slots ≡ 3 → far ≡ far′) → allocLarge i near far ≡ allocLarge i′ near′ far′
+  alloc : i ≡ i′ → (allocLarge i near far .slots ≡ 2 → near ≡ near′) → (allocLarge i near far .slots ≡ 3 → far ≡ far′)
+      → allocLarge i near far ≡ allocLarge i′ near′ far′
   alloc e n g = go (eqb i 0) (eqb i 1) refl refl
     where
       go : (s t : Bool) → eqb i 0 ≡ s → eqb i 1 ≡ t → allocLarge i near far ≡ allocLarge i′ near′ far′
@@ -160,7 +161,8 @@ same-codes (suc k) f (suc n) bs cs a =
     rest : List ℕ → List UnwindCode
     rest l = codesIn k f (suc n - c .slots) (drop (2 * c .slots) l)
 
-    go : (t : Bool) → within (suc n) c ≡ t → (T (within (suc n) c) → rest bs ≡ rest cs) → cond t (c ∷ rest bs) (undecodable ∷ []) ≡ cond t (c ∷ rest cs) (undecodable ∷ [])
+    go : (t : Bool) → within (suc n) c ≡ t → (T (within (suc n) c) → rest bs ≡ rest cs)
+        → cond t (c ∷ rest bs) (undecodable ∷ []) ≡ cond t (c ∷ rest cs) (undecodable ∷ [])
     go true e ih = ap (λ (l : List UnwindCode). c ∷ l) (ih (rw e tt))
     go false e ih = refl
 
@@ -169,7 +171,8 @@ same-codes (suc k) f (suc n) bs cs a =
 same-info : (bs cs : List ℕ) → AlikePart bs cs → infoWords bs ≡ infoWords cs
 unfolding infoWords codesOf
 same-info bs cs a =
-    ap (λ (l : List UnwindCode). byte bs 3 % 16 ∷ byte bs 3 / 16 * 16 ∷ length l ∷ opWords l) (same-codes (slotCount bs) (byte bs 3 % 16) (slotCount bs) (drop 4 bs) (drop 4 cs) (a .codes-are))
+    ap (λ (l : List UnwindCode). byte bs 3 % 16 ∷ byte bs 3 / 16 * 16 ∷ length l ∷ opWords l)
+    (same-codes (slotCount bs) (byte bs 3 % 16) (slotCount bs) (drop 4 bs) (drop 4 cs) (a .codes-are))
     ∙ rw (a .frame-is, a .count-is) refl
 
 same-number : (bs cs : List ℕ) → AlikePart bs cs → partNumber bs ≡ partNumber cs

@@ -7,7 +7,7 @@ use Prim.Native.Nat.{ℕ, zero, suc, _+_, _-_, _*_, _/_, _%_, _≤_, _<_}
 use native.Mathlib.Omega.{arith}
 use lib.ListN.{length, getD, take, drop, length-append}
 use lib.Seq.{getD-append-seam, getD-append-add}
-use lib.Dec.{T, eqb, ltb, leb, ltb→lt, lt→ltb, leb→le, le→leb, eqb-refl, eqb·suc-zero}
+use lib.Dec.{T, eqb, ltb, leb, ltb→lt, lt→ltb, leb→le, le→leb, eqb-refl}
 use borrow.Author.Tests.{lt-ltb, leb-true}
 use Rattle.text.specs.Tests.{is-true, and-l, and-r, both, either, all}
 use Rattle.entry.specs.Entry.{word}
@@ -21,7 +21,7 @@ use Rattle.unwind_info.specs.declared.UnwindCode.{UnwindCode}
 use Rattle.unwind_info.specs.UnwindInfo.{byte, slotAt, longAt, slotCount, frameRegister, frameOffset, partSize, code, undecodable, saveKind}
 use Rattle.unwind_info.specs.UnwindInfo.{allocLarge, pushMachframe, codes, codeAt, within, codesIn, codesOf, opWords, infoWords, partsIn, parts, infosWords, x64Body}
 use Rattle.unwind_info.specs.UnwindInfo.{firstRefused, countNumber, x64Number, decoded}
-use Rattle.unwind_info.specs.Index.{codes-few, ops-length, info-length}
+use Rattle.unwind_info.specs.Index.{codes-few, ops-length, info-length, zero-both}
 
 -- ---- bytes
 
@@ -254,12 +254,11 @@ infos-fit front (q ∷ ps) h =
 -- what no refusal up to 4 says: 1 to 32 parts
 number-parts : (bs : List ℕ) → x64Number bs ≡ 0 → T (leb 1 (length (parts bs)) && leb (length (parts bs)) 32)
 unfolding x64Number
-number-parts bs e = go (firstRefused (parts bs)) (leb 1 (length (parts bs)) && leb (length (parts bs)) 32) e
+number-parts bs e = go (leb 1 (length (parts bs)) && leb (length (parts bs)) 32) (zero-both (firstRefused (parts bs)) (countNumber (length (parts bs))) e .1)
   where
-    go : (n : ℕ) (t : Bool) → _≡_ {A = ℕ} (cond (eqb n 0) (cond t 0 4) n) 0 → T t
-    go zero true e = tt
-    go zero false e = absurd (omega (arith, e))
-    go (suc n) t e = absurd (omega (arith, rw (eqb·suc-zero n) at e))
+    go : (t : Bool) → _≡_ {A = ℕ} (cond t 0 4) 0 → T t
+    go true e = tt
+    go false e = absurd (omega (arith, e))
 
 -- a decoded body keeps the x64 layout
 pub layout-kept : (b e a : ℕ) (bs : List ℕ) → T (areBytes bs) → x64Number bs ≡ 0 → T (x64Layout (x64Body b e a bs))

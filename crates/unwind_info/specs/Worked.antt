@@ -38,13 +38,15 @@ cases =
     -- SAVE_NONVOL rsi at 64 and SAVE_NONVOL_FAR rdi at 524,288 without a frame register; the frame offset is kept
     ∷ done (1 ∷ 0 ∷ 5 ∷ 32 ∷ 0 ∷ 100 ∷ 8 ∷ 0 ∷ 0 ∷ 117 ∷ 0 ∷ 0 ∷ 8 ∷ 0 ∷ []) (body 1 (0 ∷ 32 ∷ 2 ∷ 3 ∷ 6 ∷ 64 ∷ 3 ∷ 7 ∷ 524288 ∷ []))
     -- the same under rbp, behind SET_FPREG and before it; its info 9 is not read
-    ∷ done (1 ∷ 0 ∷ 6 ∷ 37 ∷ 0 ∷ 100 ∷ 8 ∷ 0 ∷ 0 ∷ 147 ∷ 0 ∷ 117 ∷ 0 ∷ 0 ∷ 8 ∷ 0 ∷ []) (body 1 (5 ∷ 32 ∷ 3 ∷ 4 ∷ 6 ∷ 64 ∷ 5 ∷ 0 ∷ 0 ∷ 4 ∷ 7 ∷ 524288 ∷ []))
+    ∷ done (1 ∷ 0 ∷ 6 ∷ 37 ∷ 0 ∷ 100 ∷ 8 ∷ 0 ∷ 0 ∷ 147 ∷ 0 ∷ 117 ∷ 0 ∷ 0 ∷ 8 ∷ 0 ∷ [])
+    (body 1 (5 ∷ 32 ∷ 3 ∷ 4 ∷ 6 ∷ 64 ∷ 5 ∷ 0 ∷ 0 ∷ 4 ∷ 7 ∷ 524288 ∷ []))
     -- SAVE_XMM128 and SAVE_XMM128_FAR of xmm6
     ∷ done (1 ∷ 0 ∷ 5 ∷ 0 ∷ 0 ∷ 104 ∷ 2 ∷ 0 ∷ 0 ∷ 105 ∷ 0 ∷ 0 ∷ 8 ∷ 0 ∷ []) (body 1 (0 ∷ 0 ∷ 2 ∷ 7 ∷ 0 ∷ 0 ∷ 7 ∷ 0 ∷ 0 ∷ []))
     -- PUSH_MACHFRAME without and with an error code, and with an info that is not defined
     ∷ done (1 ∷ 0 ∷ 3 ∷ 0 ∷ 0 ∷ 10 ∷ 0 ∷ 26 ∷ 0 ∷ 42 ∷ []) (body 1 (0 ∷ 0 ∷ 3 ∷ 6 ∷ 0 ∷ 0 ∷ 6 ∷ 0 ∷ 1 ∷ 8 ∷ 0 ∷ 0 ∷ []))
     -- code 6 behind a push: the part ends, what stands before it is kept, and the next part starts after the counted slots
-    ∷ done (33 ∷ 0 ∷ 4 ∷ 0 ∷ 0 ∷ 48 ∷ 0 ∷ 6 ∷ 0 ∷ 80 ∷ 0 ∷ 96 ∷ 1 ∷ 0 ∷ 1 ∷ 0 ∷ 0 ∷ 80 ∷ []) (body 2 (0 ∷ 0 ∷ 2 ∷ 1 ∷ 3 ∷ 0 ∷ 8 ∷ 0 ∷ 0 ∷ 0 ∷ 0 ∷ 1 ∷ 1 ∷ 5 ∷ 0 ∷ []))
+    ∷ done (33 ∷ 0 ∷ 4 ∷ 0 ∷ 0 ∷ 48 ∷ 0 ∷ 6 ∷ 0 ∷ 80 ∷ 0 ∷ 96 ∷ 1 ∷ 0 ∷ 1 ∷ 0 ∷ 0 ∷ 80 ∷ [])
+    (body 2 (0 ∷ 0 ∷ 2 ∷ 1 ∷ 3 ∷ 0 ∷ 8 ∷ 0 ∷ 0 ∷ 0 ∷ 0 ∷ 1 ∷ 1 ∷ 5 ∷ 0 ∷ []))
     -- ALLOC_LARGE whose slot lies past the count, with an info that is not defined, and codes 7 and 11
     ∷ done (1 ∷ 0 ∷ 1 ∷ 0 ∷ 0 ∷ 1 ∷ []) (body 1 (0 ∷ 0 ∷ 1 ∷ 8 ∷ 0 ∷ 0 ∷ []))
     ∷ done (1 ∷ 0 ∷ 3 ∷ 0 ∷ 0 ∷ 33 ∷ 0 ∷ 0 ∷ 0 ∷ 0 ∷ []) (body 1 (0 ∷ 0 ∷ 1 ∷ 8 ∷ 0 ∷ 0 ∷ []))

@@ -1,13 +1,12 @@
 -- What the contract gives, and how it is met.
 use mathlib.Core.Path.{_≡_, refl, sym, ap, _∙_}
 use mathlib.Core.List.{List, [], _∷_, _++_}
-use Prim.Native.Nat.{ℕ, zero, suc, _+_, _≤_, _<_, min}
+use Prim.Native.Nat.{ℕ, zero, suc, _+_, _≤_, _<_}
 use native.Mathlib.Omega.{arith}
-use native.Mathlib.Decide.{decLe}
-use lib.ListN.{length, take, drop, set, length-set}
-use lib.Seq.{sets, set-out, set-set, set-comm, length-sets, take-append-seam}
+use lib.ListN.{length, take, drop, set}
+use lib.Seq.{sets, set-set, set-comm, take-append-seam}
 use borrow.Author.Tests.{lt-ltb, le-ltb}
-use Rattle.text.specs.Text.{MAX, Put}
+use Rattle.text.specs.Text.{Put}
 use Rattle.text.specs.Text.Laws.{put-fits}
 use Rattle.fill.specs.declared.Filled.{Filled}
 use Rattle.fill.specs.Fill.{Fill, refused, roomed, Fills}
@@ -51,25 +50,18 @@ set-before (w ∷ ws) d k i c h =
     ∙ ap (λ (l : List ℕ). sets l (suc i) ws) (set-comm d i k w c (λ e. omega arith))
 
 -- the third of the words put at `at`
-pub third : {d d′ ws : List ℕ} {at r x a b : ℕ} (c : ℕ) → Put d at (a ∷ b ∷ x ∷ ws) d′ r → Put d at (a ∷ b ∷ c ∷ ws) (set d′ (min (at + 2) MAX) c) r
-third {d} {d′} {ws} {at} {r} {x} {a} {b} c p = record { bytes = go (decLe (at + 2) MAX); next = p .next; short = p .short }
+pub third : {d d′ ws : List ℕ} {at r x a b : ℕ} (c : ℕ) → Put d at (a ∷ b ∷ x ∷ ws) d′ r → Put d at (a ∷ b ∷ c ∷ ws) (set d′ (at + 2) c) r
+third {d} {d′} {ws} {at} {r} {x} {a} {b} c p =
+    let z : at + 2 ≡ suc (suc at) = omega arith in
+    record {
+      bytes =
+          ap (λ (k : ℕ). set d′ k c) z
+          ∙ ap (λ (l : List ℕ). set l (suc (suc at)) c) (p .bytes)
+          ∙ set-before ws (set d₂ (suc (suc at)) x) (suc (suc at)) (suc (suc (suc at))) c (omega arith)
+          ∙ ap (λ (l : List ℕ). sets l (suc (suc (suc at))) ws) (set-set d₂ (suc (suc at)) x c);
+      next = p .next;
+      short = p .short;
+    }
   where
     d₂ : List ℕ
     d₂ = set (set d at a) (suc at) b
-
-    stored : set (sets (set d₂ (suc (suc at)) x) (suc (suc (suc at))) ws) (suc (suc at)) c ≡ sets (set d₂ (suc (suc at)) c) (suc (suc (suc at))) ws
-    stored =
-        set-before ws (set d₂ (suc (suc at)) x) (suc (suc at)) (suc (suc (suc at))) c (omega arith)
-        ∙ ap (λ (l : List ℕ). sets l (suc (suc (suc at))) ws) (set-set d₂ (suc (suc at)) x c)
-
-    go : Dec (at + 2 ≤ MAX) → set d′ (min (at + 2) MAX) c ≡ sets d at (a ∷ b ∷ c ∷ ws)
-    go (yes h) =
-        ap (λ (k : ℕ). set d′ k c) (omega arith)
-        ∙ ap (λ (l : List ℕ). set l (suc (suc at)) c) (p .bytes)
-        ∙ stored
-    go (no h) =
-        let m : length d₂ ≤ suc (suc at) = omega (arith, length-set (set d at a) (suc at) b, length-set d at a, p .short) in
-        let n : length d′ ≤ min (at + 2) MAX = omega (arith, ap length (p .bytes), length-sets d at (a ∷ b ∷ x ∷ ws), p .short) in
-        set-out d′ (min (at + 2) MAX) c n
-        ∙ p .bytes
-        ∙ ap (λ (l : List ℕ). sets l (suc (suc (suc at))) ws) (set-out d₂ (suc (suc at)) x m ∙ sym (set-out d₂ (suc (suc at)) c m))

@@ -71,6 +71,9 @@ returns c =
     let args =
     c .before .before .before .before .before .before .before .before .before .before .before .before .before
     .before .before .before .before .before .before .before .before .before .before .before .before .before .before .args in
+    let pre =
+    c .before .before .before .before .before .before .before .before .before .before .before .before .before
+    .before .before .before .before .before .before .before .before .before .before .before .before .before .before .pre in
     let put-word =
     c .before .before .before .before .before .before .before .before .before .before .before
     .before .before .before .before .before .before .before .before .before .before .before .put-word in
@@ -87,7 +90,7 @@ returns c =
     .before .before .before .before .before .before .before .before .before .frame-offset in
     info-put (args .part .now) (put-word .ensures) (put-word2 .ensures) (put-word3 .ensures)
     (rw (slot-count .ensures .0, save-base .ensures) at (put-ops .ensures .0)) (c .before .before .set-word .ensures) (frame-register .ensures) (frame-offset .ensures)
-    (rw (slot-count .ensures .0, save-base .ensures) at (put-ops .ensures .1 .0))
+    (rw (slot-count .ensures .0, save-base .ensures) at (put-ops .ensures .1 .0)) (pre .1)
 
 pub put-part-spec : {M : Type 1} → statement M
 put-part-spec =
