@@ -1,4 +1,4 @@
--- Document 01's starred specimens, as one table: each is what `outcome` computes.
+-- Document 01's starred specimens and chains by request 2, as one table: each is what `outcome` computes.
 use Prim.Native.Nat.{ℕ}
 use mathlib.Core.Bool.{Bool, _&&_}
 use mathlib.Core.List.{List, [], _∷_}
@@ -22,6 +22,10 @@ pub record Case : Type 0 where
 -- a book of one function from 1000h to 1040h, of one info with these words (document 01's words 20480 and 1 before it)
 abbrev one : ℕ → List ℕ → List ℕ
 one n info = 1 ∷ 1 ∷ 4 ∷ n ∷ 4096 ∷ 4160 ∷ 20480 ∷ 1 ∷ info
+
+-- such a function with two infos, its own and its parent's
+abbrev chained : ℕ → List ℕ → List ℕ
+chained n infos = 1 ∷ 1 ∷ 4 ∷ n ∷ 4096 ∷ 4160 ∷ 20480 ∷ 2 ∷ infos
 
 -- an ARM64 book of such a function, of one operation
 abbrev arm : List ℕ → List ℕ
@@ -79,6 +83,25 @@ cases =
     -- limit 0: the all-zero entry is skipped; begin 1 and end 2 give 5
     ∷ record { book = 1 ∷ 1 ∷ 4 ∷ 7 ∷ 0 ∷ 0 ∷ 0 ∷ 1 ∷ 0 ∷ 0 ∷ 0 ∷ []; limit = 0; number = 0; entries = 1; text = [] }
     ∷ record { book = 1 ∷ 1 ∷ 4 ∷ 7 ∷ 1 ∷ 2 ∷ 0 ∷ 1 ∷ 0 ∷ 0 ∷ 0 ∷ []; limit = 0; number = 5; entries = 0; text = [] }
+    -- a part that pushes $rbx, its parent $rdi: the parent's push came first
+    ∷ record {
+      book = chained 16 (0 ∷ 0 ∷ 1 ∷ 1 ∷ 3 ∷ 0 ∷ 0 ∷ 0 ∷ 1 ∷ 1 ∷ 7 ∷ 0 ∷ []);
+      limit = 32;
+      number = 0;
+      entries = 1;
+      text = ascii "STACK CFI INIT 1000 40 .cfa: $rsp 24 + $rdi: .cfa 16 - ^ $rbx: .cfa 24 - ^ .ra: .cfa 8 - ^\n";
+    }
+    -- a part that saves $rbx at RSP + 16, its parent pushed $rbp, allocated 32 and set $rbp
+    ∷ record {
+      book = chained 22 (0 ∷ 0 ∷ 1 ∷ 3 ∷ 3 ∷ 16 ∷ 5 ∷ 0 ∷ 3 ∷ 5 ∷ 0 ∷ 0 ∷ 2 ∷ 0 ∷ 32 ∷ 1 ∷ 5 ∷ 0 ∷ []);
+      limit = 32;
+      number = 0;
+      entries = 1;
+      text = ascii "STACK CFI INIT 1000 40 .cfa: $rbp 48 + $rbp: .cfa 16 - ^ $rbx: .cfa 32 - ^ .ra: .cfa 8 - ^\n";
+    }
+    -- limit 1 has the part looked at alone: with an undecodable operation of its own it is skipped, with one of its parent's it is 5
+    ∷ record { book = chained 13 (0 ∷ 0 ∷ 1 ∷ 8 ∷ 0 ∷ 0 ∷ 0 ∷ 0 ∷ 0 ∷ []); limit = 1; number = 0; entries = 1; text = [] }
+    ∷ record { book = chained 13 (0 ∷ 0 ∷ 0 ∷ 0 ∷ 0 ∷ 1 ∷ 8 ∷ 0 ∷ 0 ∷ []); limit = 1; number = 5; entries = 0; text = [] }
     -- ARM64: a lone other; a lone save-next; x29 and x30 pre-indexed by 16
     ∷ record {
       book = arm (8 ∷ 0 ∷ 0 ∷ 0 ∷ []);

@@ -9,7 +9,7 @@ use Rattle.text.specs.Tests.{and-l, and-r, or-no}
 use Rattle.x64.specs.declared.Scan.{Scan}
 use Rattle.entry.specs.Entry.{word}
 use Rattle.x64.specs.X64.{infoCount, chain, infoFits, infosFit, x64Layout, undecodableOps, undecodableInfos}
-use Rattle.x64.specs.Index.{opAt, opsRun, infoOps, nextInfo, chainFrom, ops-step, chain-step, chain-run, infos-fit-step, count-small, undecodable-step, info-bound, layout-infos, layout-few}
+use Rattle.x64.specs.Index.{opAt, opsRun, infoOps, nextInfo, infoAt, infosRun, ops-step, chain-step, chain-run, infos-fit-step, undecodable-step, info-bound, layout-infos, layout-few}
 use Rattle.x64.specs.Scan.{scanStep, scanned, scanStart}
 use Rattle.x64.specs.Scan.Laws.{scanned-append}
 
@@ -27,54 +27,52 @@ pub scan-done : {ws : List ℕ} {f o a : ℕ} {z s : Scan} {k : ℕ} → OpsScan
 unfolding scanned opsRun
 scan-done {k = k} l h = let e : k ≡ 0 = omega arith in rw e at (l .rest)
 
-pub record ChainScan (ws : List ℕ) (z s : Scan) (a m : ℕ) : Type 0 where
+-- the first m infos are left
+pub record ChainScan (ws : List ℕ) (z s : Scan) (m : ℕ) : Type 0 where
   pub small : s .total < 2 ^ 31
-  pub bound : a + 768 * m ≤ 24580
-  pub fits : T (infosFit ws m a)
-  pub rest : scanned s (chainFrom ws m a) ≡ z
+  pub more : m ≤ infoCount ws
+  pub rest : scanned s (infosRun ws 4 m) ≡ z
 
-pub scan-all : {ws : List ℕ} → T (x64Layout ws) → ChainScan ws (scanned scanStart (chain ws)) scanStart 4 (infoCount ws)
+pub scan-all : {ws : List ℕ} → ChainScan ws (scanned scanStart (chain ws)) scanStart (infoCount ws)
 unfolding scanStart
-scan-all {ws} h = record { small = omega arith; bound = omega (arith, layout-few ws h); fits = layout-infos ws h; rest = rw (chain-run ws) }
+scan-all {ws} = record { small = omega arith; more = omega arith; rest = rw (chain-run ws) }
 
-module _ {ws : List ℕ} {z s : Scan} {a m : ℕ} where
-  pub scan-few : ChainScan ws z s a m → 0 < m → word ws (a + 2) ≤ 255
-  scan-few l h = count-small ws a (and-l (infoFits ws a) _ (rw (infos-fit-step ws m a h) at (l .fits)))
-
-  pub info-turn : {r : Scan} → ChainScan ws z s a m → 0 < m → r ≡ scanned s (infoOps ws a) → r .total < 2 ^ 31
-      → ChainScan ws z r (nextInfo ws a) (m - 1)
+module _ {ws : List ℕ} {z s : Scan} {m : ℕ} where
+  pub info-turn : {r : Scan} → ChainScan ws z s m → 0 < m → r ≡ scanned s (infoOps ws (infoAt ws (m - 1))) → r .total < 2 ^ 31
+      → ChainScan ws z r (m - 1)
   info-turn {r} l h e t = record {
     small = t;
-    bound = omega (arith, l .bound, scan-few l h);
-    fits = and-r (infoFits ws a) _ (rw (infos-fit-step ws m a h) at (l .fits));
-    rest = rw e (sym (scanned-append s (infoOps ws a) (chainFrom ws (m - 1) (nextInfo ws a))) ∙ (rw (chain-step ws m a h) at (l .rest)));
+    more = omega (arith, l .more);
+    rest = rw e (sym (scanned-append s (infoOps ws (infoAt ws (m - 1))) (infosRun ws 4 (m - 1))) ∙ (rw (chain-step ws 4 m h) at (l .rest)));
   }
 
-  pub chain-scanned : ChainScan ws z s a m → m ≤ 0 → s ≡ z
-  unfolding scanned chainFrom
+  pub chain-scanned : ChainScan ws z s m → m ≤ 0 → s ≡ z
+  unfolding scanned infosRun
   chain-scanned l h = let e : m ≡ 0 = omega arith in rw e at (l .rest)
 
--- ---- the search for an undecodable operation: m infos are left to look at, of those that there are
-pub record UndecodableLeft (ws : List ℕ) (z : Bool) (a m : ℕ) : Type 0 where
+-- ---- the loops that go over infos from the first on: m of them are left, at word a, and there are as many
+pub record InfosLeft (ws : List ℕ) (a m : ℕ) : Type 0 where
   pub infos : ℕ
   pub more : m ≤ infos
   pub bound : a + 768 * infos ≤ 24580
   pub fits : T (infosFit ws infos a)
-  pub rest : undecodableInfos ws m a ≡ z
 
-pub undecodable-all : {ws : List ℕ} (limit : ℕ) → T (x64Layout ws)
-    → UndecodableLeft ws (undecodableInfos ws (min limit (infoCount ws)) 4) 4 (min limit (infoCount ws))
-undecodable-all {ws} limit h = record { infos = infoCount ws; more = omega arith; bound = omega (arith, layout-few ws h); fits = layout-infos ws h; rest = refl }
+pub infos-all : {ws : List ℕ} {m : ℕ} → T (x64Layout ws) → m ≤ infoCount ws → InfosLeft ws 4 m
+infos-all {ws} h k = record { infos = infoCount ws; more = k; bound = omega (arith, layout-few ws h); fits = layout-infos ws h }
 
-module _ {ws : List ℕ} {z : Bool} {a m : ℕ} where
-  pub undecodable-fits : (l : UndecodableLeft ws z a m) → 0 < m → T (infoFits ws a)
-  undecodable-fits l h = and-l (infoFits ws a) _ (rw (infos-fit-step ws (l .infos) a (omega (arith, l .more))) at (l .fits))
+module _ {ws : List ℕ} {a m : ℕ} where
+  pub info-fits : InfosLeft ws a m → 0 < m → T (infoFits ws a)
+  info-fits l h = and-l (infoFits ws a) _ (rw (infos-fit-step ws (l .infos) a (omega (arith, l .more))) at (l .fits))
 
-  pub undecodable-turn : UndecodableLeft ws z a m → 0 < m → undecodableOps ws (a + 3) (word ws (a + 2)) ≡ false → UndecodableLeft ws z (nextInfo ws a) (m - 1)
-  undecodable-turn l h e = record {
+  pub infos-turn : InfosLeft ws a m → 0 < m → InfosLeft ws (nextInfo ws a) (m - 1)
+  infos-turn l h = record {
     infos = l .infos - 1;
     more = omega (arith, l .more);
-    bound = info-bound ws a (l .infos) (undecodable-fits l h) (omega (arith, l .more)) (l .bound);
+    bound = info-bound ws a (l .infos) (info-fits l h) (omega (arith, l .more)) (l .bound);
     fits = and-r (infoFits ws a) _ (rw (infos-fit-step ws (l .infos) a (omega (arith, l .more))) at (l .fits));
-    rest = or-no (undecodableOps ws (a + 3) (word ws (a + 2))) _ e ∙ sym (undecodable-step ws m a h) ∙ l .rest;
   }
+
+-- none undecodable in the info at a
+pub undecodable-turn : (ws : List ℕ) (a m : ℕ) {z : Bool} → undecodableInfos ws m a ≡ z → 0 < m → undecodableOps ws (a + 3) (word ws (a + 2)) ≡ false
+    → undecodableInfos ws (m - 1) (nextInfo ws a) ≡ z
+undecodable-turn ws a m l h e = or-no (undecodableOps ws (a + 3) (word ws (a + 2))) _ e ∙ sym (undecodable-step ws m a h) ∙ l

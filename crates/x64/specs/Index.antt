@@ -4,7 +4,7 @@ use Prim.Native.Nat.{ℕ, zero, suc, _+_, _-_, _*_, _^_, _≤_, _<_}
 use native.Mathlib.Omega.{arith}
 use native.Mathlib.Nat.{add-assoc}
 use mathlib.Core.Bool.{Bool, true, false, cond, _&&_, _||_}
-use mathlib.Core.List.{List, [], _∷_, _++_, append-assoc, reverse, reverse-cons}
+use mathlib.Core.List.{List, [], _∷_, _++_, append-assoc, append-nil, reverse, reverse-cons}
 use borrow.Author.Tests.{le-leb, lt-ltb}
 use lib.IntN.{ℤ}
 use lib.Dec.{T, ltb, leb, eqb, ltb→lt, leb→le}
@@ -41,10 +41,19 @@ infoOps ws a = opsRun ws (word ws a) (word ws (a + 1)) (a + 3) (word ws (a + 2))
 abbrev pub nextInfo : List ℕ → ℕ → ℕ
 nextInfo ws a = a + 3 + 3 * word ws (a + 2)
 
--- m infos from word a on, first to last
-unfoldable pub chainFrom : List ℕ → ℕ → ℕ → List Op
-chainFrom ws zero a = []
-chainFrom ws (suc m) a = infoOps ws a ++ chainFrom ws m (nextInfo ws a)
+-- where the k-th info behind that at word a starts
+unfoldable pub infoFrom : List ℕ → ℕ → ℕ → ℕ
+infoFrom ws a zero = a
+infoFrom ws a (suc k) = infoFrom ws (nextInfo ws a) k
+
+-- where info k starts, counted from 0
+abbrev pub infoAt : List ℕ → ℕ → ℕ
+infoAt ws k = infoFrom ws 4 k
+
+-- m infos from word a on, last to first
+unfoldable pub infosRun : List ℕ → ℕ → ℕ → List Op
+infosRun ws a zero = []
+infosRun ws a (suc m) = infoOps ws (infoFrom ws a m) ++ infosRun ws a m
 
 -- running backwards from word a: first what stands from a + 3 on
 last-first : (ws : List ℕ) (f o a n : ℕ) → opsRun ws f o a (suc n) ≡ opsRun ws f o (a + 3) n ++ (opAt ws f o a ∷ [])
@@ -59,12 +68,19 @@ ops-stored ws f o a zero = refl
 ops-stored ws f o a (suc n) =
     reverse-cons (opAt ws f o a) (stored ws f o (a + 3) n) ∙ ap (λ (l : List Op). l ++ (opAt ws f o a ∷ [])) (ops-stored ws f o (a + 3) n) ∙ sym (last-first ws f o a n)
 
-infos-run : (ws : List ℕ) (m a : ℕ) → inOrder (infos ws m a) ≡ chainFrom ws m a
-unfolding infos inOrder chainFrom
-infos-run ws zero a = refl
-infos-run ws (suc m) a = rw (ops-stored ws (word ws a) (word ws (a + 1)) (a + 3) (word ws (a + 2)), infos-run ws m (nextInfo ws a))
+-- running m + 1 infos from word a on, last to first: that at a comes last
+own-last : (ws : List ℕ) (a m : ℕ) → infosRun ws a (suc m) ≡ infosRun ws (nextInfo ws a) m ++ infoOps ws a
+unfolding infosRun infoFrom
+own-last ws a zero = append-nil (infoOps ws a)
+own-last ws a (suc m) = ap (λ (l : List Op). infoOps ws (infoFrom ws (nextInfo ws a) m) ++ l) (own-last ws a m)
+    ∙ sym (append-assoc (infoOps ws (infoFrom ws (nextInfo ws a) m)) (infosRun ws (nextInfo ws a) m) (infoOps ws a))
 
-pub chain-run : (ws : List ℕ) → chain ws ≡ chainFrom ws (infoCount ws) 4
+infos-run : (ws : List ℕ) (m a : ℕ) → inOrder (infos ws m a) ≡ infosRun ws a m
+unfolding infos inOrder infosRun
+infos-run ws zero a = refl
+infos-run ws (suc m) a = rw (ops-stored ws (word ws a) (word ws (a + 1)) (a + 3) (word ws (a + 2)), infos-run ws m (nextInfo ws a)) (sym (own-last ws a m))
+
+pub chain-run : (ws : List ℕ) → chain ws ≡ infosRun ws 4 (infoCount ws)
 unfolding chain
 chain-run ws = infos-run ws (infoCount ws) 4
 
@@ -90,9 +106,13 @@ pub ops-step : (ws : List ℕ) (f o a n : ℕ) → 0 < n → opsRun ws f o a n �
 unfolding opsRun
 ops-step ws f o a n h = ap (opsRun ws f o a) (one-less n h)
 
-pub chain-step : (ws : List ℕ) (m a : ℕ) → 0 < m → chainFrom ws m a ≡ infoOps ws a ++ chainFrom ws (m - 1) (nextInfo ws a)
-unfolding chainFrom
-chain-step ws m a h = ap (λ (k : ℕ). chainFrom ws k a) (one-less m h)
+pub chain-step : (ws : List ℕ) (a m : ℕ) → 0 < m → infosRun ws a m ≡ infoOps ws (infoFrom ws a (m - 1)) ++ infosRun ws a (m - 1)
+unfolding infosRun
+chain-step ws a m h = ap (infosRun ws a) (one-less m h)
+
+pub info-step : (ws : List ℕ) (a k : ℕ) → 0 < k → infoFrom ws a k ≡ infoFrom ws (nextInfo ws a) (k - 1)
+unfolding infoFrom
+info-step ws a k h = ap (infoFrom ws a) (one-less k h)
 
 pub infos-fit-step : (ws : List ℕ) (m a : ℕ) → 0 < m → infosFit ws m a ≡ (infoFits ws a && infosFit ws (m - 1) (nextInfo ws a))
 unfolding infosFit
@@ -134,6 +154,22 @@ pub layout-few : (ws : List ℕ) → T (x64Layout ws) → infoCount ws ≤ 32
 unfolding x64Layout
 layout-few ws h = leb→le (infoCount ws) 32 (search (and-l, and-r))
 
+-- each of m infos from word a on fits, and starts where they leave room for it
+info-in : (ws : List ℕ) (m a k : ℕ) → T (infosFit ws m a) → k < m → a + 768 * m ≤ 24580
+    → T (infoFits ws (infoFrom ws a k)) × (infoFrom ws a k + 768 ≤ 24580)
+unfolding infosFit infoFrom
+info-in ws zero a k f h b = absurd (omega arith)
+info-in ws (suc m) a zero f h b = (and-l (infoFits ws a) _ f, omega arith)
+info-in ws (suc m) a (suc k) f h b =
+    info-in ws m (nextInfo ws a) k (and-r (infoFits ws a) _ f) (omega arith)
+    (omega (arith, info-bound ws a (suc m) (and-l (infoFits ws a) _ f) (omega arith) b))
+
+pub info-within : (ws : List ℕ) (k : ℕ) → T (x64Layout ws) → k < infoCount ws → T (infoFits ws (infoAt ws k)) × (infoAt ws k + 768 ≤ 24580)
+info-within ws k l h = info-in ws (infoCount ws) 4 k (layout-infos ws l) h (omega (arith, layout-few ws l))
+
+pub info-few : (ws : List ℕ) (k : ℕ) → T (x64Layout ws) → k < infoCount ws → word ws (infoAt ws k + 2) ≤ 255
+info-few ws k l h = count-small ws (infoAt ws k) (info-within ws k l h .0)
+
 -- ---- of two rows, one after the other
 
 pub run-append : {A : Type 0} (f : ℕ → Op → List A) (S : ℕ) (xs ys : List Op) → run f S (xs ++ ys) ≡ run f S xs ++ run f (S + growths xs) ys
@@ -160,7 +196,7 @@ reaches-small S (o ∷ os) k h =
 -- ---- refusal 6: the two tests of the code decide what document 01 asks of every printed place, where the layout holds
 
 -- the frame offset that an operation holds keeps its range
-unfoldable offsetOk : Op → Bool
+unfoldable pub offsetOk : Op → Bool
 offsetOk (PushNonVolatile r) = true
 offsetOk (Alloc v) = true
 offsetOk (SaveRsp r v) = true
@@ -182,7 +218,7 @@ places-inside S (PushMachineFrame false) h w v g = rw (lt-ltb (S + 16) (2 ^ 31) 
 places-inside S Other h w v g = refl
 places-inside S Undecodable h w v g = refl
 
-reach-is : (S : ℕ) (os : List Op) → S < 2 ^ 31 → T (all offsetOk os) → reaches S os ≡ inReach S os
+pub reach-is : (S : ℕ) (os : List Op) → S < 2 ^ 31 → T (all offsetOk os) → reaches S os ≡ inReach S os
 unfolding reaches inReach inside
 reach-is S [] h w = refl
 reach-is S (o ∷ os) h w = go (ltb (valueOf o) (2 ^ 31)) (ltb (S + growthOf o) (2 ^ 31)) (ltb→lt (valueOf o) (2 ^ 31)) (ltb→lt (S + growthOf o) (2 ^ 31))
@@ -206,16 +242,19 @@ unfolding opsRun opAt
 ops-ok ws f o a zero h = tt
 ops-ok ws f o a (suc n) h = both (offsetOk (opAt ws f o (a + 3 * n))) _ (of-ok f o _ _ _ h) (ops-ok ws f o a n h)
 
-infos-ok : (ws : List ℕ) (m a : ℕ) → T (infosFit ws m a) → T (all offsetOk (chainFrom ws m a))
-unfolding infosFit infoFits chainFrom
+infos-ok : (ws : List ℕ) (m a : ℕ) → T (infosFit ws m a) → T (all offsetOk (infosRun ws a m))
+unfolding infosFit infoFits infosRun
 infos-ok ws zero a h = tt
 infos-ok ws (suc m) a h =
-    all-append offsetOk (infoOps ws a) _
-    (ops-ok ws (word ws a) (word ws (a + 1)) (a + 3) (word ws (a + 2)) (search (and-l, and-r)))
+    rw (own-last ws a m) (all-append offsetOk (infosRun ws (nextInfo ws a) m) _
     (infos-ok ws m (nextInfo ws a) (and-r (infoFits ws a) _ h))
+    (ops-ok ws (word ws a) (word ws (a + 1)) (a + 3) (word ws (a + 2)) (search (and-l, and-r))))
+
+pub chain-ok : (ws : List ℕ) → T (x64Layout ws) → T (all offsetOk (chain ws))
+chain-ok ws h = rw (chain-run ws) (infos-ok ws (infoCount ws) 4 (layout-infos ws h))
 
 pub chain-reach : (ws : List ℕ) → T (x64Layout ws) → reaches 8 (chain ws) ≡ inReach 8 (chain ws)
-chain-reach ws h = rw (chain-run ws) (reach-is 8 (chainFrom ws (infoCount ws) 4) (omega arith) (infos-ok ws (infoCount ws) 4 (layout-infos ws h)))
+chain-reach ws h = reach-is 8 (chain ws) (omega arith) (chain-ok ws h)
 
 -- ---- an entry in two parts: before its chain is looked at, and by what the chain comes to
 

@@ -36,10 +36,10 @@ unfoldable pub infos : List ℕ → ℕ → ℕ → List (List Op)
 infos ws zero a = []
 infos ws (suc m) a = stored ws (word ws a) (word ws (a + 1)) (a + 3) (word ws (a + 2)) ∷ infos ws m (a + 3 + 3 * word ws (a + 2))
 
--- the order in which a chain runs: infos first to last, each backwards
+-- 02, request 2: the order in which a chain runs: infos last to first, a part after its parents, each backwards
 unfoldable pub inOrder : List (List Op) → List Op
 inOrder [] = []
-inOrder (os ∷ rest) = reverse os ++ inOrder rest
+inOrder (os ∷ rest) = inOrder rest ++ reverse os
 
 -- word 3: the number of infos
 abbrev pub infoCount : List ℕ → ℕ

@@ -21,8 +21,10 @@ use crate::Op;
 use entry::word;
 ghost use mathlib.Core.Path.{_≡_};
 ghost use Prim.Native.Nat.{_^_, _<_};
-ghost use Rattle.x64.specs.X64.{opOf, growthOf, valueOf};
-ghost use Rattle.x64.specs.Index.{opAt};
+ghost use lib.ListN.{getD};
+ghost use lib.Dec.{T};
+ghost use Rattle.x64.specs.X64.{opOf, growthOf, valueOf, x64Layout};
+ghost use Rattle.x64.specs.Index.{opAt, infoAt};
 
 // Where the words of a body stand.
 pub(crate) const BEGIN_AT: usize = 0;
@@ -85,6 +87,21 @@ fn op_of(kind: u32, register: u32, value: u32, frame: u32, offset: u32) -> Op
         UNDECODABLE => Op::Undecodable,
         _ => Op::Other,
     }
+}
+
+// Where info k starts, counted from 0.
+pub(crate) fn info_at(body: &[u32], k: usize) -> usize
+    requires { ⌜ T (x64Layout (now body)) × (k < getD (now body) 3 0) ⌝ }
+    ensures { λ r. ⌜ (r ≡ infoAt (now (body .entry)) k) × (r < 2 ^ 19) ⌝ }
+{
+    let mut a: usize = FIRST_INFO;
+    let mut i = k;
+    while 0 < i {
+        let n = word(body, a + OPS_AT) as usize;
+        a = a + FIRST_OP + OP_WORDS * n;
+        i -= 1;
+    }
+    a
 }
 
 // The operation whose words start at i, of an info with this frame register and offset.

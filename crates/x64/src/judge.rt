@@ -20,6 +20,7 @@ use crate::body::SLOT;
 use crate::body::UNDECODABLE;
 use crate::body::VALUE_AT;
 use crate::body::growth;
+use crate::body::info_at;
 use crate::body::op_at;
 use crate::body::value_of;
 use entry::Judged;
@@ -317,20 +318,20 @@ fn scan_ops(body: &[u32], frame: u32, offset: u32, a: usize, n: usize, from: Sca
     s
 }
 
+// The whole chain, as it is run: infos last to first.
 pub(crate) fn scan_chain(body: &[u32]) -> Scan
     requires { ⌜ T (x64Layout (now body)) ⌝ }
     ensures { λ r. ⌜ r ≡ scanned scanStart (chain (now (body .entry))) ⌝ }
 {
     let mut s = Scan::start();
-    let mut a: usize = FIRST_INFO;
     let mut m = word(body, INFOS_AT) as usize;
     while 0 < m {
+        m -= 1;
+        let a = info_at(body, m);
         let frame = word(body, a);
         let offset = word(body, a + FRAME_OFFSET_AT);
         let n = word(body, a + OPS_AT) as usize;
         s = scan_ops(body, frame, offset, a + FIRST_OP, n, s);
-        a = a + FIRST_OP + OP_WORDS * n;
-        m -= 1;
     }
     s
 }

@@ -6,7 +6,8 @@
 //     CFA - 8          return address
 //     CFA - S          the stack pointer where the next operation runs
 //
-// A chain of infos describes one function; the infos are run first to last, and the operations of each, stored last first, backwards.
+// A chain of infos describes one function: its own info, then that of the function it is a part of, its parent, and so on. The outermost parent's
+// operations came first in the prologue, so the infos are run last to first, and the operations of each, stored last first, backwards.
 //
 // body reads the words, judge says what becomes of an entry and what its chain comes to, write puts its line.
 

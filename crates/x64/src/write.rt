@@ -4,7 +4,6 @@ use crate::Placed;
 use crate::Scan;
 use crate::body::BEGIN_AT;
 use crate::body::END_AT;
-use crate::body::FIRST_INFO;
 use crate::body::FIRST_OP;
 use crate::body::FRAME_OFFSET_AT;
 use crate::body::INFOS_AT;
@@ -12,6 +11,7 @@ use crate::body::OP_WORDS;
 use crate::body::OPS_AT;
 use crate::body::SLOT;
 use crate::body::growth;
+use crate::body::info_at;
 use crate::body::op_at;
 use entry::saturating_sub;
 use entry::word;
@@ -144,24 +144,23 @@ fn put_ops(
     Placed { at: p, total: s }
 }
 
-// The rules of the whole chain: infos first to last.
+// The rules of the whole chain: infos last to first.
 fn put_chain(out: &mut [u8], at: usize, body: &[u32]) -> usize
     requires { ⌜ T (x64Layout (now body)) × T (reaches 8 (chain (now body))) ⌝ }
     ensures { λ r. ⌜ Put (now (out .entry)) at (run opText 8 (chain (now (body .entry)))) (now (out .exit)) r ⌝ }
 {
     let mut p = at;
     let mut s: u64 = SLOT;
-    let mut a: usize = FIRST_INFO;
     let mut m = word(body, INFOS_AT) as usize;
     while 0 < m {
+        m -= 1;
+        let a = info_at(body, m);
         let frame = word(body, a);
         let offset = word(body, a + FRAME_OFFSET_AT);
         let n = word(body, a + OPS_AT) as usize;
         let placed = put_ops(out, p, body, frame, offset, a + FIRST_OP, n, s);
         p = placed.at;
         s = placed.total;
-        a = a + FIRST_OP + OP_WORDS * n;
-        m -= 1;
     }
     p
 }

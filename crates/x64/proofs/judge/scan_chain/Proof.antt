@@ -1,17 +1,19 @@
 -- `scan_chain`: scanning the infos left gives what scanning the chain gives (`ChainScan`).
+use Prim.Native.Nat.{_-_}
 use Rattle.x64.specs.X64.{chain}
+use Rattle.x64.specs.Index.{info-few}
 use Rattle.x64.specs.Scan.{scanned, scanStart}
-use Rattle.x64.proofs.Passes.{ChainScan, scan-all, scan-few, info-turn, chain-scanned}
+use Rattle.x64.proofs.Passes.{ChainScan, scan-all, info-turn, chain-scanned}
 use borrow.Author.Needs.{needs}
 use native.Mathlib.Omega.{arith}
 use Rattle.x64.proofs.judge.scan_chain.Statement.{statement}
 use Rattle.x64.proofs.judge.scan_chain.Tie as tie
 
 abbrev Inv-loop : tie.InvT-loop
-Inv-loop body s₀ a₀ m₀ s a m = ChainScan body (scanned scanStart (chain body)) s a m
+Inv-loop body s₀ m₀ s m = ChainScan body (scanned scanStart (chain body)) s m
 
 abbrev μ-loop : tie.MeasureT-loop
-μ-loop body s₀ a₀ m₀ s a m = m
+μ-loop body s₀ m₀ s m = m
 
 start-requires : tie.Need-start-requires Inv-loop μ-loop
 start-requires c κs = search needs
@@ -23,7 +25,15 @@ cast-m : tie.Need-cast-m Inv-loop μ-loop
 cast-m c = search needs
 
 loop-holds : tie.Need-loop-holds Inv-loop μ-loop
-loop-holds c = rw (c .word .ensures, c .before .start .ensures) (scan-all (c .before .before .before .pre))
+loop-holds c = rw (c .word .ensures, c .before .start .ensures) scan-all
+
+sub-m : tie.Need-sub-m Inv-loop μ-loop
+sub-m c = search needs
+
+info-at-requires : tie.Need-info-at-requires Inv-loop μ-loop
+info-at-requires c κs =
+    let pre = c .before .before .before .before .before .pre in
+    (pre, omega (arith, c .before .loop .inv .more))
 
 word-requires-2 : tie.Need-word-requires-2 Inv-loop μ-loop
 word-requires-2 c κs = search needs
@@ -47,37 +57,24 @@ add-scan-ops : tie.Need-add-scan-ops Inv-loop μ-loop
 add-scan-ops c = search needs
 
 scan-ops-requires : tie.Need-scan-ops-requires Inv-loop μ-loop
-scan-ops-requires c κs = (
-  omega arith,
-  omega (arith, scan-few (c .before .before .before .before .loop .inv) (search needs), c .word4 .ensures),
-  search needs,
-)
-
-add-a : tie.Need-add-a Inv-loop μ-loop
-add-a c = search needs
-
-mul-a : tie.Need-mul-a Inv-loop μ-loop
-mul-a c =
+scan-ops-requires c κs =
     let loop = c .before .before .before .before .before .loop in
-    record { fits = omega (arith, scan-few (loop .inv) (search needs), c .before .word4 .ensures) }
-
-add-a-2 : tie.Need-add-a-2 Inv-loop μ-loop
-add-a-2 c =
-    let loop = c .before .before .before .before .before .loop in
-    record { fits = omega (arith, scan-few (loop .inv) (search needs), c .before .word4 .ensures) }
-
-sub-m : tie.Need-sub-m Inv-loop μ-loop
-sub-m c = search needs
+    let pre = c .before .before .before .before .before .before .before .before .before .pre in
+    let args = c .before .before .before .before .before .before .before .before .before .args in
+    (
+      omega arith,
+      omega (arith, info-few (args .body .now) (loop .m - 1) pre (omega (arith, loop .inv .more)), rw (c .before .before .before .info-at .ensures .0) at (c .word4 .ensures)),
+      search needs,
+    )
 
 loop-less : tie.Need-loop-less Inv-loop μ-loop
 loop-less c = search needs
 
 loop-again : tie.Need-loop-again Inv-loop μ-loop
 loop-again c =
-    let loop = c .before .before .before .before .before .loop in
-    rw (c .before .word4 .ensures) (info-turn (loop .inv) (search needs)
-    (rw (c .before .before .before .word2 .ensures, c .before .before .word3 .ensures, c .before .word4 .ensures) at
-    (c .scan-ops .ensures .0)) (c .scan-ops .ensures .1))
+    let loop = c .before .before .before .before .before .before .loop in
+    info-turn (loop .inv) (search needs)
+    (rw (c .before .before .before .word2 .ensures, c .before .before .word3 .ensures, c .before .word4 .ensures, c .before .before .before .before .info-at .ensures .0) at (c .scan-ops .ensures .0)) (c .scan-ops .ensures .1)
 
 returns : tie.Need-returns Inv-loop μ-loop
 returns c = chain-scanned (c .before .loop .inv) (search needs)
@@ -92,6 +89,8 @@ scan-chain-spec =
     word-requires
     cast-m
     loop-holds
+    sub-m
+    info-at-requires
     word-requires-2
     add-word
     word-requires-3
@@ -100,10 +99,6 @@ scan-chain-spec =
     cast-n
     add-scan-ops
     scan-ops-requires
-    add-a
-    mul-a
-    add-a-2
-    sub-m
     loop-less
     loop-again
     returns)

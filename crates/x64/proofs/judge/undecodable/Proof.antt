@@ -1,18 +1,18 @@
--- `undecodable`: the infos left from a on decide, as long as none is found (`UndecodableLeft`).
+-- `undecodable`: the infos left from a on decide, as long as none is found.
 use Prim.Native.Nat.{min, _+_}
-use mathlib.Core.Path.{_≡_, sym, _∙_}
+use mathlib.Core.Path.{_≡_, refl, sym, _∙_}
 use Rattle.entry.specs.Entry.{word}
 use Rattle.x64.specs.X64.{infoCount, undecodableOps, undecodableInfos}
 use Rattle.text.specs.Tests.{or-yes}
 use Rattle.x64.specs.Index.{undecodable-step, count-small}
-use Rattle.x64.proofs.Passes.{UndecodableLeft, undecodable-all, undecodable-fits, undecodable-turn}
+use Rattle.x64.proofs.Passes.{InfosLeft, infos-all, info-fits, infos-turn, undecodable-turn}
 use borrow.Author.Needs.{needs}
 use native.Mathlib.Omega.{arith}
 use Rattle.x64.proofs.judge.undecodable.Statement.{statement}
 use Rattle.x64.proofs.judge.undecodable.Tie as tie
 
 abbrev Inv-loop : tie.InvT-loop
-Inv-loop body limit m₀ a₀ m a = UndecodableLeft body (undecodableInfos body (min limit (infoCount body)) 4) a m
+Inv-loop body limit m₀ a₀ m a = InfosLeft body a m × (undecodableInfos body m a ≡ undecodableInfos body (min limit (infoCount body)) 4)
 
 abbrev μ-loop : tie.MeasureT-loop
 μ-loop body limit m₀ a₀ m a = m
@@ -29,7 +29,7 @@ cast-m c = search needs
 loop-holds : tie.Need-loop-holds Inv-loop μ-loop
 loop-holds c =
     rw (c .least .ensures, c .before .word .ensures)
-    (undecodable-all (c .before .before .before .args .limit) (c .before .before .before .pre))
+    (infos-all (c .before .before .before .pre) (omega arith), refl)
 
 add-word : tie.Need-add-word Inv-loop μ-loop
 add-word c = search needs
@@ -47,9 +47,9 @@ undecodable-ops-requires : tie.Need-undecodable-ops-requires Inv-loop μ-loop
 undecodable-ops-requires c κs =
     let loop = c .before .before .loop in
     let args = c .before .before .before .before .before .before .args in (
-      omega (arith, loop .inv .bound),
+      omega (arith, loop .inv .0 .bound),
       omega
-          (arith, count-small (args .body .now) (loop .a) (undecodable-fits (loop .inv) (search needs)), c .word2 .ensures),
+          (arith, count-small (args .body .now) (loop .a) (info-fits (loop .inv .0) (search needs)), c .word2 .ensures),
     )
 
 returns : tie.Need-returns Inv-loop μ-loop
@@ -58,7 +58,7 @@ returns c =
     let args = c .before .before .before .before .before .before .before .before .args in
     or-yes (undecodableOps (args .body .now) (loop .a + 3) (word (args .body .now) (loop .a + 2))) _
     (rw (c .before .before .word2 .ensures) at (sym (c .before .undecodable-ops .ensures) ∙ c .if1 .taken)) ∙ sym
-    (undecodable-step (args .body .now) (loop .m) (loop .a) (search needs)) ∙ loop .inv .rest
+    (undecodable-step (args .body .now) (loop .m) (loop .a) (search needs)) ∙ loop .inv .1
 
 add-a : tie.Need-add-a Inv-loop μ-loop
 add-a c = search needs
@@ -68,14 +68,14 @@ mul-a c =
     let loop = c .before .before .before .before .loop in
     let args = c .before .before .before .before .before .before .before .before .args in
     record
-    { fits = omega (arith, count-small (args .body .now) (loop .a) (undecodable-fits (loop .inv) (search needs)), c .before .before .word2 .ensures) }
+    { fits = omega (arith, count-small (args .body .now) (loop .a) (info-fits (loop .inv .0) (search needs)), c .before .before .word2 .ensures) }
 
 add-a-2 : tie.Need-add-a-2 Inv-loop μ-loop
 add-a-2 c =
     let loop = c .before .before .before .before .loop in
     let args = c .before .before .before .before .before .before .before .before .args in
     record
-    { fits = omega (arith, count-small (args .body .now) (loop .a) (undecodable-fits (loop .inv) (search needs)), c .before .before .word2 .ensures, loop .inv .bound) }
+    { fits = omega (arith, count-small (args .body .now) (loop .a) (info-fits (loop .inv .0) (search needs)), c .before .before .word2 .ensures, loop .inv .0 .bound) }
 
 sub-m : tie.Need-sub-m Inv-loop μ-loop
 sub-m c = search needs
@@ -86,12 +86,17 @@ loop-less c = search needs
 loop-again : tie.Need-loop-again Inv-loop μ-loop
 loop-again c =
     let word2 = c .before .before .word2 in
-    rw (word2 .ensures) (undecodable-turn (c .before .before .before .before .loop .inv) (search needs)
-    (rw (word2 .ensures) at (sym (c .before .undecodable-ops .ensures) ∙ c .if1 .left)))
+    let loop = c .before .before .before .before .loop in
+    let args = c .before .before .before .before .before .before .before .before .args in
+    rw (word2 .ensures) (
+      infos-turn (loop .inv .0) (search needs),
+      undecodable-turn (args .body .now) (loop .a) (loop .m) (loop .inv .1) (search needs)
+          (rw (word2 .ensures) at (sym (c .before .undecodable-ops .ensures) ∙ c .if1 .left)),
+    )
 
 returns-2 : tie.Need-returns-2 Inv-loop μ-loop
 unfolding undecodableInfos
-returns-2 c = let e : c .before .loop .m ≡ 0 = omega arith in rw e at (c .before .loop .inv .rest)
+returns-2 c = let e : c .before .loop .m ≡ 0 = omega arith in rw e at (c .before .loop .inv .1)
 
 pub undecodable-spec : {M : Type 1} → statement M
 undecodable-spec =

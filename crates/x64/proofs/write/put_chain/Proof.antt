@@ -1,17 +1,19 @@
 -- `put_chain`: what the infos left put, behind what is put, is the whole (`ChainLeft`).
+use Prim.Native.Nat.{_-_}
 use Rattle.text.specs.Text.Laws.{put-length}
 use Rattle.x64.specs.X64.{chain, run, opText}
-use Rattle.x64.proofs.Loops.{ChainLeft, info-few, info-reach, chain-turn, chain-done, chain-all}
+use Rattle.x64.specs.Index.{info-few}
+use Rattle.x64.proofs.Loops.{ChainLeft, info-reach, chain-turn, chain-done, chain-all}
 use borrow.Author.Needs.{needs}
 use native.Mathlib.Omega.{arith}
 use Rattle.x64.proofs.write.put_chain.Statement.{statement}
 use Rattle.x64.proofs.write.put_chain.Tie as tie
 
 abbrev Inv-loop : tie.InvT-loop
-Inv-loop out₀ at body p₀ s₀ a₀ m₀ out p s a m = ChainLeft body out₀ at (run opText 8 (chain body)) out p s a m
+Inv-loop out₀ at body p₀ s₀ m₀ out p s m = ChainLeft body out₀ at (run opText 8 (chain body)) out p s m
 
 abbrev μ-loop : tie.MeasureT-loop
-μ-loop out₀ at body p₀ s₀ a₀ m₀ out p s a m = m
+μ-loop out₀ at body p₀ s₀ m₀ out p s m = m
 
 word-requires : tie.Need-word-requires Inv-loop μ-loop
 word-requires c κs = search needs
@@ -20,9 +22,15 @@ cast-m : tie.Need-cast-m Inv-loop μ-loop
 cast-m c = search needs
 
 loop-holds : tie.Need-loop-holds Inv-loop μ-loop
-loop-holds c =
-    let pre = c .before .before .before .pre in
-    rw (c .word .ensures) (chain-all (pre .0) (pre .1) (omega arith) (omega arith))
+loop-holds c = rw (c .word .ensures) (chain-all (c .before .before .before .pre .1) (omega arith) (omega arith))
+
+sub-m : tie.Need-sub-m Inv-loop μ-loop
+sub-m c = search needs
+
+info-at-requires : tie.Need-info-at-requires Inv-loop μ-loop
+info-at-requires c κs =
+    let pre = c .before .before .before .before .before .pre in
+    (pre .0, omega (arith, c .before .loop .inv .more))
 
 word-requires-2 : tie.Need-word-requires-2 Inv-loop μ-loop
 word-requires-2 c κs = search needs
@@ -47,30 +55,17 @@ add-put-ops c = search needs
 
 put-ops-requires : tie.Need-put-ops-requires Inv-loop μ-loop
 put-ops-requires c κs =
-    let loop = c .before .before .before .before .before .loop in (
+    let word4 = c .before .word4 in
+    let info-at = c .before .before .before .before .info-at in
+    let loop = c .before .before .before .before .before .before .loop in
+    let pre = c .before .before .before .before .before .before .before .before .before .before .pre in
+    let args = c .before .before .before .before .before .before .before .before .before .before .args in
+    (
       omega arith,
-      omega (arith, info-few (loop .inv) (search needs), c .before .word4 .ensures),
+      omega (arith, info-few (args .body .now) (loop .m - 1) (pre .0) (omega (arith, loop .inv .more)), rw (info-at .ensures .0) at (word4 .ensures)),
       search needs,
-      rw
-          (c .before .before .before .word2 .ensures, c .before .before .word3 .ensures, c .before .word4 .ensures)
-          (info-reach (loop .inv) (search needs)),
+      rw (c .before .before .before .word2 .ensures, c .before .before .word3 .ensures, word4 .ensures, info-at .ensures .0) (info-reach (loop .inv) (search needs)),
     )
-
-add-a : tie.Need-add-a Inv-loop μ-loop
-add-a c = search needs
-
-mul-a : tie.Need-mul-a Inv-loop μ-loop
-mul-a c =
-    let loop = c .before .before .before .before .before .before .before .before .loop in
-    record { fits = omega (arith, info-few (loop .inv) (search needs), c .before .before .before .before .word4 .ensures) }
-
-add-a-2 : tie.Need-add-a-2 Inv-loop μ-loop
-add-a-2 c =
-    let loop = c .before .before .before .before .before .before .before .before .loop in
-    record { fits = omega (arith, info-few (loop .inv) (search needs), c .before .before .before .before .word4 .ensures) }
-
-sub-m : tie.Need-sub-m Inv-loop μ-loop
-sub-m c = search needs
 
 loop-less : tie.Need-loop-less Inv-loop μ-loop
 loop-less c = search needs
@@ -81,10 +76,10 @@ loop-again c =
     let word4 = c .before .before .before .before .word4 in
     let word3 = c .before .before .before .before .before .word3 in
     let word2 = c .before .before .before .before .before .before .word2 in
-    let loop = c .before .before .before .before .before .before .before .before .loop in
-    rw (word4 .ensures)
-    (chain-turn (loop .inv) (search needs) (rw (word2 .ensures, word3 .ensures, word4 .ensures) at (put-ops .ensures .0))
-    (rw (word2 .ensures, word3 .ensures, word4 .ensures) at (put-ops .ensures .1)))
+    let info-at = c .before .before .before .before .before .before .before .info-at in
+    let loop = c .before .before .before .before .before .before .before .before .before .loop in
+    chain-turn (loop .inv) (search needs) (rw (word2 .ensures, word3 .ensures, word4 .ensures, info-at .ensures .0) at (put-ops .ensures .0))
+    (rw (word2 .ensures, word3 .ensures, word4 .ensures, info-at .ensures .0) at (put-ops .ensures .1))
 
 returns : tie.Need-returns Inv-loop μ-loop
 returns c = chain-done (c .before .loop .inv) (search needs)
@@ -101,6 +96,8 @@ put-chain-spec =
     word-requires
     cast-m
     loop-holds
+    sub-m
+    info-at-requires
     word-requires-2
     add-word
     word-requires-3
@@ -109,10 +106,6 @@ put-chain-spec =
     cast-n
     add-put-ops
     put-ops-requires
-    add-a
-    mul-a
-    add-a-2
-    sub-m
     loop-less
     loop-again
     same-length
