@@ -154,21 +154,15 @@ pub layout-few : (ws : List ℕ) → T (x64Layout ws) → infoCount ws ≤ 32
 unfolding x64Layout
 layout-few ws h = leb→le (infoCount ws) 32 (search (and-l, and-r))
 
--- each of m infos from word a on fits, and starts where they leave room for it
-info-in : (ws : List ℕ) (m a k : ℕ) → T (infosFit ws m a) → k < m → a + 768 * m ≤ 24580
-    → T (infoFits ws (infoFrom ws a k)) × (infoFrom ws a k + 768 ≤ 24580)
+-- of m infos from word a on
+info-in : (ws : List ℕ) (m a k : ℕ) → T (infosFit ws m a) → k < m → T (infoFits ws (infoFrom ws a k))
 unfolding infosFit infoFrom
-info-in ws zero a k f h b = absurd (omega arith)
-info-in ws (suc m) a zero f h b = (and-l (infoFits ws a) _ f, omega arith)
-info-in ws (suc m) a (suc k) f h b =
-    info-in ws m (nextInfo ws a) k (and-r (infoFits ws a) _ f) (omega arith)
-    (omega (arith, info-bound ws a (suc m) (and-l (infoFits ws a) _ f) (omega arith) b))
-
-pub info-within : (ws : List ℕ) (k : ℕ) → T (x64Layout ws) → k < infoCount ws → T (infoFits ws (infoAt ws k)) × (infoAt ws k + 768 ≤ 24580)
-info-within ws k l h = info-in ws (infoCount ws) 4 k (layout-infos ws l) h (omega (arith, layout-few ws l))
+info-in ws zero a k f h = absurd (omega arith)
+info-in ws (suc m) a zero f h = and-l (infoFits ws a) _ f
+info-in ws (suc m) a (suc k) f h = info-in ws m (nextInfo ws a) k (and-r (infoFits ws a) _ f) (omega arith)
 
 pub info-few : (ws : List ℕ) (k : ℕ) → T (x64Layout ws) → k < infoCount ws → word ws (infoAt ws k + 2) ≤ 255
-info-few ws k l h = count-small ws (infoAt ws k) (info-within ws k l h .0)
+info-few ws k l h = count-small ws (infoAt ws k) (info-in ws (infoCount ws) 4 k (layout-infos ws l) h)
 
 -- ---- of two rows, one after the other
 

@@ -91,10 +91,12 @@ reaches-tally S (o ∷ os) h = go (ltb (S + growthOf o) (2 ^ 31)) refl (reaches-
     three : (a b c : Bool) → ((a && true) && (b && c)) ≡ ((a && b) && c)
     three true b c = refl
     three false b c = refl
+
     none : (a b c : Bool) → ((a && false) && c) ≡ ((a && b) && false)
     none true true c = refl
     none true false c = refl
     none false b c = refl
+
     go : (b : Bool) → ltb (S + growthOf o) (2 ^ 31) ≡ b
         → (S + growthOf o < 2 ^ 31 → reaches (S + growthOf o) os ≡ (all small os && ltb (S + growthOf o + tally growthOf os) (2 ^ 31)))
         → ((small o && b) && reaches (S + growthOf o) os) ≡ ((small o && all small os) && ltb (S + (growthOf o + tally growthOf os)) (2 ^ 31))

@@ -20,7 +20,7 @@
 use crate::Op;
 use entry::word;
 ghost use mathlib.Core.Path.{_≡_};
-ghost use Prim.Native.Nat.{_^_, _<_};
+ghost use Prim.Native.Nat.{_^_, _<_, _≤_};
 ghost use lib.ListN.{getD};
 ghost use lib.Dec.{T};
 ghost use Rattle.x64.specs.X64.{opOf, growthOf, valueOf, x64Layout};
@@ -89,9 +89,9 @@ fn op_of(kind: u32, register: u32, value: u32, frame: u32, offset: u32) -> Op
     }
 }
 
-// Where info k starts, counted from 0.
+// Where info k starts, counted from 0; at the count, where the infos end.
 pub(crate) fn info_at(body: &[u32], k: usize) -> usize
-    requires { ⌜ T (x64Layout (now body)) × (k < getD (now body) 3 0) ⌝ }
+    requires { ⌜ T (x64Layout (now body)) × (k ≤ getD (now body) 3 0) ⌝ }
     ensures { λ r. ⌜ (r ≡ infoAt (now (body .entry)) k) × (r < 2 ^ 19) ⌝ }
 {
     let mut a: usize = FIRST_INFO;

@@ -163,7 +163,7 @@ fn undecodable(body: &[u32], limit: u32) -> bool
     ensures { λ r. ⌜ r ≡ undecodableInfos (now (body .entry)) (min limit (getD (now (body .entry)) 3 0)) 4 ⌝ }
 {
     let mut m = least(limit, word(body, INFOS_AT)) as usize;
-    let mut a: usize = FIRST_INFO;
+    let mut a = info_at(body, 0);
     while 0 < m {
         let n = word(body, a + OPS_AT) as usize;
         if undecodable_ops(body, a + FIRST_OP, n) {

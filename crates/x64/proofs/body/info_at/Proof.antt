@@ -1,5 +1,5 @@
--- `info_at`: from info a on, i infos further is where info k starts.
-use Rattle.x64.specs.Index.{info-within, infoFrom, infoAt, info-step, count-small}
+-- `info_at`: i infos behind that at a is where info k starts.
+use Rattle.x64.specs.Index.{infoFrom, infoAt, info-step, count-small}
 use mathlib.Core.Path.{_≡_, refl, sym, _∙_}
 use Rattle.x64.proofs.Passes.{InfosLeft, infos-all, info-fits, infos-turn}
 use borrow.Author.Needs.{needs}
@@ -16,7 +16,7 @@ abbrev μ-loop : tie.MeasureT-loop
 loop-holds : tie.Need-loop-holds Inv-loop μ-loop
 loop-holds c =
     let pre = c .before .pre in
-    (infos-all (pre .0) (omega (arith, pre .1)), refl)
+    (infos-all (pre .0) (pre .1), refl)
 
 add-word : tie.Need-add-word Inv-loop μ-loop
 add-word c = search needs
@@ -58,13 +58,8 @@ returns : tie.Need-returns Inv-loop μ-loop
 unfolding infoFrom
 returns c =
     let loop = c .before .loop in
-    let pre = c .before .before .before .pre in
-    let args = c .before .before .before .args in
     let e : loop .i ≡ 0 = omega arith in
-    let r : loop .a ≡ infoAt (args .body .now) (args .k) = rw e at (loop .inv .1) in (
-      r,
-      omega (arith, r, info-within (args .body .now) (args .k) (pre .0) (pre .1) .1),
-    )
+    (rw e at (loop .inv .1), omega (arith, loop .inv .0 .bound))
 
 pub info-at-spec : {M : Type 1} → statement M
 info-at-spec =

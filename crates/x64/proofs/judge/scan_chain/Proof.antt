@@ -60,8 +60,7 @@ scan-ops-requires : tie.Need-scan-ops-requires Inv-loop μ-loop
 scan-ops-requires c κs =
     let loop = c .before .before .before .before .before .loop in
     let pre = c .before .before .before .before .before .before .before .before .before .pre in
-    let args = c .before .before .before .before .before .before .before .before .before .args in
-    (
+    let args = c .before .before .before .before .before .before .before .before .before .args in (
       omega arith,
       omega (arith, info-few (args .body .now) (loop .m - 1) pre (omega (arith, loop .inv .more)), rw (c .before .before .before .info-at .ensures .0) at (c .word4 .ensures)),
       search needs,

@@ -59,8 +59,7 @@ put-ops-requires c κs =
     let info-at = c .before .before .before .before .info-at in
     let loop = c .before .before .before .before .before .before .loop in
     let pre = c .before .before .before .before .before .before .before .before .before .before .pre in
-    let args = c .before .before .before .before .before .before .before .before .before .before .args in
-    (
+    let args = c .before .before .before .before .before .before .before .before .before .before .args in (
       omega arith,
       omega (arith, info-few (args .body .now) (loop .m - 1) (pre .0) (omega (arith, loop .inv .more)), rw (info-at .ensures .0) at (word4 .ensures)),
       search needs,
