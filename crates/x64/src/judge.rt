@@ -162,7 +162,8 @@ fn undecodable(body: &[u32], limit: u32) -> bool
     requires { ⌜ T (x64Layout (now body)) ⌝ }
     ensures { λ r. ⌜ r ≡ undecodableInfos (now (body .entry)) (min limit (getD (now (body .entry)) 3 0)) 4 ⌝ }
 {
-    let mut m = least(limit, word(body, INFOS_AT)) as usize;
+    let infos = word(body, INFOS_AT);
+    let mut m = least(limit, infos) as usize;
     let mut a = info_at(body, 0);
     while 0 < m {
         let n = word(body, a + OPS_AT) as usize;
@@ -324,7 +325,8 @@ pub(crate) fn scan_chain(body: &[u32]) -> Scan
     ensures { λ r. ⌜ r ≡ scanned scanStart (chain (now (body .entry))) ⌝ }
 {
     let mut s = Scan::start();
-    let mut m = word(body, INFOS_AT) as usize;
+    let infos = word(body, INFOS_AT) as usize;
+    let mut m = infos;
     while 0 < m {
         m -= 1;
         let a = info_at(body, m);

@@ -151,7 +151,8 @@ fn put_chain(out: &mut [u8], at: usize, body: &[u32]) -> usize
 {
     let mut p = at;
     let mut s: u64 = SLOT;
-    let mut m = word(body, INFOS_AT) as usize;
+    let infos = word(body, INFOS_AT) as usize;
+    let mut m = infos;
     while 0 < m {
         m -= 1;
         let a = info_at(body, m);

@@ -10,10 +10,10 @@ use Rattle.x64.proofs.judge.scan_chain.Statement.{statement}
 use Rattle.x64.proofs.judge.scan_chain.Tie as tie
 
 abbrev Inv-loop : tie.InvT-loop
-Inv-loop body s₀ m₀ s m = ChainScan body (scanned scanStart (chain body)) s m
+Inv-loop body s₀ infos m₀ s m = ChainScan body (scanned scanStart (chain body)) s m
 
 abbrev μ-loop : tie.MeasureT-loop
-μ-loop body s₀ m₀ s m = m
+μ-loop body s₀ infos m₀ s m = m
 
 start-requires : tie.Need-start-requires Inv-loop μ-loop
 start-requires c κs = search needs
@@ -21,8 +21,8 @@ start-requires c κs = search needs
 word-requires : tie.Need-word-requires Inv-loop μ-loop
 word-requires c κs = search needs
 
-cast-m : tie.Need-cast-m Inv-loop μ-loop
-cast-m c = search needs
+cast-infos : tie.Need-cast-infos Inv-loop μ-loop
+cast-infos c = search needs
 
 loop-holds : tie.Need-loop-holds Inv-loop μ-loop
 loop-holds c = rw (c .word .ensures, c .before .start .ensures) scan-all
@@ -86,7 +86,7 @@ scan-chain-spec =
     μ-loop
     start-requires
     word-requires
-    cast-m
+    cast-infos
     loop-holds
     sub-m
     info-at-requires

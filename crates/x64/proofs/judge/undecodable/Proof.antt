@@ -12,10 +12,10 @@ use Rattle.x64.proofs.judge.undecodable.Statement.{statement}
 use Rattle.x64.proofs.judge.undecodable.Tie as tie
 
 abbrev Inv-loop : tie.InvT-loop
-Inv-loop body limit m₀ a₀ m a = InfosLeft body a m × (undecodableInfos body m a ≡ undecodableInfos body (min limit (infoCount body)) 4)
+Inv-loop body limit infos m₀ a₀ m a = InfosLeft body a m × (undecodableInfos body m a ≡ undecodableInfos body (min limit (infoCount body)) 4)
 
 abbrev μ-loop : tie.MeasureT-loop
-μ-loop body limit m₀ a₀ m a = m
+μ-loop body limit infos m₀ a₀ m a = m
 
 word-requires : tie.Need-word-requires Inv-loop μ-loop
 word-requires c κs = search needs

@@ -10,16 +10,16 @@ use Rattle.x64.proofs.write.put_chain.Statement.{statement}
 use Rattle.x64.proofs.write.put_chain.Tie as tie
 
 abbrev Inv-loop : tie.InvT-loop
-Inv-loop out₀ at body p₀ s₀ m₀ out p s m = ChainLeft body out₀ at (run opText 8 (chain body)) out p s m
+Inv-loop out₀ at body p₀ s₀ infos m₀ out p s m = ChainLeft body out₀ at (run opText 8 (chain body)) out p s m
 
 abbrev μ-loop : tie.MeasureT-loop
-μ-loop out₀ at body p₀ s₀ m₀ out p s m = m
+μ-loop out₀ at body p₀ s₀ infos m₀ out p s m = m
 
 word-requires : tie.Need-word-requires Inv-loop μ-loop
 word-requires c κs = search needs
 
-cast-m : tie.Need-cast-m Inv-loop μ-loop
-cast-m c = search needs
+cast-infos : tie.Need-cast-infos Inv-loop μ-loop
+cast-infos c = search needs
 
 loop-holds : tie.Need-loop-holds Inv-loop μ-loop
 loop-holds c = rw (c .word .ensures) (chain-all (c .before .before .before .pre .1) (omega arith) (omega arith))
@@ -93,7 +93,7 @@ put-chain-spec =
     Inv-loop
     μ-loop
     word-requires
-    cast-m
+    cast-infos
     loop-holds
     sub-m
     info-at-requires
