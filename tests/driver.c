@@ -72,7 +72,7 @@ static void end(struct book *b, uint32_t i, size_t from)
 
 /*
  * A book of one entry with n pushes in infos of at most 255, the first `shorter` of $r8 and the others of $rbx, and its line.
- * Each info's operations are stored backwards.
+ * The last push is stored first: infos are run last to first, and the operations of each backwards.
  */
 static size_t pushes(struct book *b, char *line, int n, int shorter)
 {
@@ -80,7 +80,7 @@ static size_t pushes(struct book *b, char *line, int n, int shorter)
     size_t at = (size_t)sprintf(line, "STACK CFI INIT 1000 40 .cfa: $rsp %d +", 8 + 8 * n);
     start(b, 1, 1);
     put(b, 4, 4096, 4160, 0, infos);
-    for (int i = 0; i < n; i += 255) {
+    for (int i = 255 * (infos - 1); i >= 0; i -= 255) {
         int k = n - i < 255 ? n - i : 255;
         put(b, 3, 0, 0, k);
         for (int j = i + k - 1; j >= i; j--)

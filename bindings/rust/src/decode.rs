@@ -32,10 +32,14 @@ pub const MOST_X64_BODY: usize = 4 + MOST_INFOS * (3 + 3 * MOST_OPERATIONS);
 ///
 /// # Finding the bytes
 ///
-/// In an image a part that is chained to another has flag 4, and behind its slots, whose number is rounded up to an even one,
-/// the `RUNTIME_FUNCTION` of that other part. So with an image as it is loaded, `image[rva]` being the byte at an address:
+/// In an image a part that is chained to another, its parent, has flag 4, and behind its slots, whose number is rounded up to
+/// an even one, the `RUNTIME_FUNCTION` of that other part. So with an image as it is loaded, `image[rva]` being the byte at an
+/// address:
 ///
 /// ```
+/// use stacklines::book::Book;
+/// use stacklines::{decode_x64, translate, NO_LIMIT};
+///
 /// /// The parts of the chain that begins with this info.
 /// fn parts(image: &[u8], mut info: usize) -> Option<Vec<u8>> {
 ///     let mut bytes = Vec::new();
@@ -53,7 +57,7 @@ pub const MOST_X64_BODY: usize = 4 + MOST_INFOS * (3 + 3 * MOST_OPERATIONS);
 ///     None
 /// }
 ///
-/// // At 0 a part with one slot, push rbx, that is chained to the part at 20h, with push rbp.
+/// // At 0 a part with one slot, push rbx, that is chained to its parent at 20h, with push rbp.
 /// let mut image = vec![0x21, 0x01, 0x01, 0x00, 0x01, 0x30, 0, 0];
 /// image.extend([0x00, 0x10, 0, 0, 0x20, 0x10, 0, 0, 0x20, 0, 0, 0]);
 /// image.resize(0x20, 0);
@@ -61,8 +65,13 @@ pub const MOST_X64_BODY: usize = 4 + MOST_INFOS * (3 + 3 * MOST_OPERATIONS);
 ///
 /// let bytes = parts(&image, 0).unwrap();
 /// assert_eq!(bytes, [0x21, 1, 1, 0, 1, 0x30, 0x01, 1, 1, 0, 1, 0x50]);
-/// assert_eq!(stacklines::decode_x64(&bytes, 0x1020, 0x1030, 0)?.infos.len(), 2);
-/// # Ok::<(), stacklines::Undecoded>(())
+/// let function = decode_x64(&bytes, 0x1020, 0x1030, 0)?;
+/// assert_eq!(function.infos.len(), 2);
+///
+/// // A translation runs the parent first.
+/// let text = translate(&Book::X64(vec![function]).words()?, NO_LIMIT)?;
+/// assert_eq!(text.as_str(), "STACK CFI INIT 1020 10 .cfa: $rsp 24 + $rbp: .cfa 16 - ^ $rbx: .cfa 24 - ^ .ra: .cfa 8 - ^\n");
+/// # Ok::<(), Box<dyn std::error::Error>>(())
 /// ```
 ///
 /// # What comes out

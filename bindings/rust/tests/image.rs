@@ -51,7 +51,8 @@ fn lines_of_functions() {
     let of = |i: usize| line(&image, &functions[12 * i..12 * i + 12]);
     assert_eq!(functions.len(), 36);
     assert_eq!(of(0).unwrap(), FIRST_LINE);
-    assert!(of(1).unwrap().starts_with("STACK CFI INIT 1040 10 .cfa: $rsp 56 + "));
+    let chained = "STACK CFI INIT 1040 10 .cfa: $rsp 56 + $rbx: .cfa 16 - ^ $rdi: .cfa 56 - ^ .ra: .cfa 8 - ^\n";
+    assert_eq!(of(1).unwrap(), chained);
     assert!(of(2).is_err());
 }
 

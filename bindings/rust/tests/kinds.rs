@@ -54,6 +54,22 @@ fn x64_frame_register_and_saves() {
     assert_eq!(rules_of(vec![save, Operation::Other]), ".cfa: $rsp 8 + $rbx: .cfa -8 - ^ .ra: .cfa 8 - ^");
 }
 
+/// The last info, the outermost parent's, is run first, and each uses its own frame register.
+#[test]
+fn x64_chain() {
+    let push = |register| info(vec![Operation::Push(register)]);
+    let chain = vec![push(Register::Rbx), push(Register::Rdi), push(Register::Rsi)];
+    let due = ".cfa: $rsp 32 + $rsi: .cfa 16 - ^ $rdi: .cfa 24 - ^ $rbx: .cfa 32 - ^ .ra: .cfa 8 - ^\n";
+    assert_eq!(text(Book::X64(vec![function(chain)])), format!("STACK CFI INIT 1000 40 {due}"));
+    let save = Operation::SaveAtFrame { register: Register::Rsi, offset: 24 };
+    let operations = vec![save, Operation::Push(Register::Rbx)];
+    let part = Info { frame_register: Register::R12, frame_offset: 32, operations };
+    let operations = vec![Operation::SetFrame, Operation::Allocate(32), Operation::Push(Register::Rbp)];
+    let parent = Info { frame_register: Register::Rbp, frame_offset: 16, operations };
+    let due = ".cfa: $rbp 32 + $rbp: .cfa 16 - ^ $rbx: .cfa 56 - ^ $rsi: $r12 -8 + ^ .ra: .cfa 8 - ^\n";
+    assert_eq!(text(Book::X64(vec![function(vec![part, parent])])), format!("STACK CFI INIT 1000 40 {due}"));
+}
+
 #[test]
 fn x64_undecodable_is_skipped() {
     let entry = function(vec![info(vec![Operation::Undecodable])]);

@@ -39,7 +39,7 @@ fn books(name: &str) -> usize {
 
 #[test]
 fn books_of_pages_have_their_lines() {
-    assert_eq!([books("README.md"), books("docs/BOOK.md")], [4, 1]);
+    assert_eq!([books("README.md"), books("docs/BOOK.md")], [4, 2]);
 }
 
 /// The unwind bytes of BOOK.md have the body of the book that it shows.

@@ -21,7 +21,7 @@ pub struct X64 {
     pub end: u32,
     /// Where its unwind information lies. With all three addresses 0 the entry is skipped.
     pub info_address: u32,
-    /// The function's own info, then those it is chained to; 1 to 32.
+    /// The function's own info, then its parent's, which it is chained to, and so on; 1 to 32. They are run last to first.
     pub infos: Vec<Info>,
 }
 
