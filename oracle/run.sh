@@ -1,6 +1,6 @@
 #!/bin/sh
 # Builds and runs one of the programs: run.sh NAME WORDS...
-# NAME is test, sample_records, model_vs_rust, vectors, rust_lines, cases_vs_rust, port_vs_model, first_difference, decode_vs_model,
+# NAME is test, sample_records, model_vs_rust, vectors, rust_lines, cases_vs_rust, port_vs_model, first_difference, chains_vs_unwinder, decode_vs_model,
 # decode_difference, records_vs_model, port_vs_rust, files_vs_rust, bindings_vs_model or bench.
 # What needs the Rust source or the port's archive says so where these are not at hand, and is skipped.
 set -eu
@@ -33,7 +33,7 @@ need_port() {
 case $name in
 test | sample_records) package=model ;;
 model_vs_rust | vectors | rust_lines | cases_vs_rust) need_rust; package=rust ;;
-port_vs_model | first_difference | decode_vs_model | decode_difference | records_vs_model) need_port; package=port ;;
+port_vs_model | first_difference | chains_vs_unwinder | decode_vs_model | decode_difference | records_vs_model) need_port; package=port ;;
 port_vs_rust | files_vs_rust) need_rust; need_port; package=port_rust ;;
 bench) need_rust; need_port; package=bench ;;
 bindings_vs_model) need_port; package=bindings ;;

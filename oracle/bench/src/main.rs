@@ -1,6 +1,6 @@
 //! The port beside the unchanged Rust: `bench tables FILE..` prints the tables of docs/BENCHMARKS.md, for realistic books and for those of the files;
 //! `bench port BOOKS TIMES` and `bench rust BOOKS TIMES` run one side alone, for a profiler;
-//! `bench size BOOKS` prints the words and the bytes of text of the books that they run, `bench text BOOKS` the text;
+//! `bench size BOOKS` prints the words and the bytes of the Rust's text of the books that they run, `bench text BOOKS` the text;
 //! `bench sample FILE WORDS` writes a file with one book of at most so many words, its entries taken evenly from all of the file.
 //! `bench decode FILE..` prints the table of the decoding, for files of unwind info (model/src/records.rs); `bench decode-port FILE TIMES` and
 //! `bench decode-plain FILE TIMES` run one side alone, `bench decode-size FILE` prints the functions and the bytes of the file.

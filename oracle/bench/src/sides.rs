@@ -2,7 +2,7 @@
 
 use crate::clock;
 use model::book::{MOST_WORDS, WORK};
-use rust::{prepare, Prepared};
+use rust::{prepare, reference, rust_answer, Prepared};
 use std::hint::black_box;
 
 pub const NO_LIMIT: u32 = 32;
@@ -44,7 +44,7 @@ impl Port {
 pub struct Both {
     pub book: Vec<u32>,
     object: Prepared,
-    /// Bytes of text.
+    /// Bytes of the port's text. On x64 chains the Rust writes other numbers, and so perhaps some bytes more or less.
     pub bytes: usize,
     /// The least times met, in nanoseconds.
     pub port: f64,
@@ -53,14 +53,17 @@ pub struct Both {
 }
 
 impl Both {
-    /// Fills in the object, and stops the program where the two texts differ.
+    /// Fills in the object, and stops the program where a text is not the one that is due: the Rust's, for the port on x64 chains the second program's.
     pub fn new(book: Vec<u32>, port: &mut Port, text: &mut Vec<u8>) -> Self {
+        let (kind, due) = (book[0], reference(&book, NO_LIMIT));
         let object = prepare(&book);
         object.translate(text);
+        assert!(text[..] == rust_answer(&book, NO_LIMIT).text, "kind {kind}: the Rust's text differs, as one object");
         let number = port.translate(&book);
-        assert!(number == 0 && port.counts[0] == u64::from(book[1]), "kind {}: refused {number}", book[0]);
-        assert!(port.text() == &text[..], "kind {}: the port's text differs from the Rust's", book[0]);
-        Both { book, object, bytes: text.len(), port: f64::INFINITY, rust: f64::INFINITY, copy: f64::INFINITY }
+        assert!(number == 0 && port.counts[0] == u64::from(book[1]), "kind {kind}: refused {number}");
+        assert!(due.faults.is_empty(), "kind {kind}: {:?}", due.faults);
+        assert!(port.text() == due.text, "kind {kind}: the port's text is not the one that is due");
+        Both { book, object, bytes: due.text.len(), port: f64::INFINITY, rust: f64::INFINITY, copy: f64::INFINITY }
     }
 
     pub fn entries(&self) -> usize {

@@ -3,6 +3,7 @@
 
 pub mod arm64;
 pub mod book;
+pub mod chains;
 pub mod due;
 pub mod dwarf;
 pub mod files;
@@ -15,6 +16,7 @@ pub mod run;
 pub mod shrink;
 pub mod tally;
 pub mod unwind_info;
+pub mod unwinder;
 pub mod words;
 pub mod x64;
 

@@ -80,14 +80,22 @@ impl Run {
     }
 }
 
-/// Compares on random books, as the words of the command say, and ends the program: `found` says what differs on a case. A book
-/// that differs is made small before it is shown.
+/// Compares on random books, as the words of the command say, and ends the program: `found` says what differs on a case.
 pub fn random_books(found: impl Fn(&Case, &mut Tally) -> Vec<String>, due: &[&[&str]]) -> ! {
+    random_cases(|rng, words| gen::case(rng, &words.kinds), found, due)
+}
+
+/// The same on cases that are made by `next`. A book that differs is made small before it is shown.
+pub fn random_cases(
+    next: impl Fn(&mut Rng, &Arguments) -> Case,
+    found: impl Fn(&Case, &mut Tally) -> Vec<String>,
+    due: &[&[&str]],
+) -> ! {
     let words = arguments();
     let mut rng = Rng::new(words.seed);
     let mut run = Run::default();
     for _ in 0..words.count {
-        let case = gen::case(&mut rng, &words.kinds);
+        let case = next(&mut rng, &words);
         let differs = !found(&case, &mut run.tally).is_empty();
         run.compared(differs, || show(&case, &found));
     }

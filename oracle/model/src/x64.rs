@@ -1,4 +1,4 @@
-//! x64 entries: the chain of infos, its operations run backwards, one INIT line.
+//! x64 entries: the chain of infos run last to first, that is the outermost parent first, each info's operations backwards; one INIT line.
 
 use crate::names::PE_X64;
 use crate::words::Words;
@@ -13,6 +13,7 @@ struct Body {
     begin: u32,
     end: u32,
     address: u32,
+    /// As stored: the function's own, its parent, and so on.
     infos: Vec<Info>,
 }
 
@@ -48,7 +49,7 @@ pub fn entry(body: &[u32], limit: u32, tally: &mut Tally) -> Judged {
         return Judged::Refused(5);
     }
     let mut run = Run::new();
-    for info in &body.infos {
+    for info in body.infos.iter().rev() {
         for operation in info.operations.iter().rev() {
             run.operation(info, operation, tally);
         }

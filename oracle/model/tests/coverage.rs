@@ -16,7 +16,12 @@ fn what_never_occurred_is_missing() {
 
 #[test]
 fn every_name_is_listed_once() {
-    for list in [[due::DOMAIN, due::CALLS].concat(), [due::DOMAIN, due::ANSWERED].concat(), due::DECODE.to_vec()] {
+    for list in [
+        [due::DOMAIN, due::CALLS].concat(),
+        [due::DOMAIN, due::ANSWERED].concat(),
+        due::CHAINS.to_vec(),
+        due::DECODE.to_vec(),
+    ] {
         let names: BTreeSet<&str> = list.iter().copied().collect();
         assert_eq!(names.len(), list.len());
     }

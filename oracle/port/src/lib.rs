@@ -1,5 +1,6 @@
 //! The port's call, with a fence of known bytes on both sides of every buffer.
 
+pub mod chains;
 pub mod decode;
 
 use model::book::WORK;

@@ -1,4 +1,5 @@
-//! The port against the unchanged Rust. The model only says which books lie in the Rust's domain; the text and the refusal come from the Rust.
+//! The port against the unchanged Rust, on x64 chains against the second program (rust/src/reference.rs). The model only says which books lie in the
+//! Rust's domain; the text and the refusal come from the other two.
 
 use model::book::WORK;
 use model::gen::Case;
@@ -6,7 +7,7 @@ use model::run::Run;
 use model::shrink::shrink;
 use model::{Outcome, Tally};
 use port::{call, differences, filling};
-use rust::{in_domain, rust_answer};
+use rust::{in_domain, reference};
 
 /// A book under a limit, with a work area as long as it has to be.
 pub fn plain(book: Vec<u32>, limit: u32) -> Case {
@@ -23,7 +24,7 @@ pub fn compare(run: &mut Run, case: &Case) {
 /// What differs for the part of the book that lies in the domain, if any does. The buffers are as long as it needs, or longer.
 fn found(case: &Case, tally: &mut Tally) -> Option<Vec<String>> {
     let (part, done) = in_domain(&case.book, case.limit, tally)?;
-    let answer = rust_answer(&part, case.limit);
+    let answer = reference(&part, case.limit);
     let need = answer.text.len();
     let (work_len, text_len) = (case.work_len.max(WORK), need + case.text_len % 200);
     let (work, mut text) = (filling(3, work_len), filling(4, text_len));
@@ -34,7 +35,7 @@ fn found(case: &Case, tally: &mut Tally) -> Option<Vec<String>> {
     text[..need].copy_from_slice(&answer.text);
     let number = if answer.exceeded { 5 } else { 0 };
     let due = Outcome { number, entries: done.entries, length: need, work: cleared, text };
-    Some(differences(&case, &due, &called))
+    Some([differences(&case, &due, &called), answer.faults].concat())
 }
 
 fn show(case: &Case) {

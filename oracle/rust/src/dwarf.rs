@@ -21,7 +21,7 @@ pub fn answer(bodies: &[&[u32]]) -> Answer {
         let object = if i % 3 == 2 { Object::Wasm(object) } else { Object::Elf(object) };
         text.extend(process(&object, None).text);
     }
-    Answer { text, exceeded: false }
+    Answer { text, ..Answer::default() }
 }
 
 /// All bodies as entries of one object, for bodies that agree about family and load address. The entries stay for good.

@@ -6,6 +6,7 @@ mod arm64;
 pub mod cases;
 mod dwarf;
 mod pdb;
+mod reference;
 mod x64;
 
 use model::book::{assemble, bodies};
@@ -13,14 +14,18 @@ use model::{translate, Tally, Translated, ARM64, DWARF, X64};
 use symbolic_cfi::{AsciiCfiWriter, CfiErrorKind};
 use symbolic_debuginfo::Object;
 
+pub use reference::{chained, reference};
+
 /// What the Rust gives: the text, and whether it stopped at a chain that is too long.
-#[derive(Debug, PartialEq, Eq)]
+#[derive(Default)]
 pub struct Answer {
     pub text: Vec<u8>,
     pub exceeded: bool,
+    /// Of a reference: where the Rust and the second program contradict each other.
+    pub faults: Vec<String>,
 }
 
-/// The Rust's answer to a book of its domain.
+/// The unchanged Rust's own answer to a book of its domain.
 pub fn rust_answer(book: &[u32], limit: u32) -> Answer {
     let bodies = bodies(book).expect("a book that keeps the contents rules");
     match book[0] {
@@ -67,7 +72,7 @@ fn process(object: &Object, limit: Option<usize>) -> Answer {
         Err(e) if e.kind() == CfiErrorKind::ExceededUnwindChainLength => true,
         Err(e) => panic!("the Rust failed: {e}"),
     };
-    Answer { text, exceeded }
+    Answer { text, exceeded, faults: Vec::new() }
 }
 
 /// The part of a book that lies in the Rust's domain: all of it; the entries up to the one refused by 5, as no later
@@ -89,14 +94,14 @@ pub fn in_domain(book: &[u32], limit: u32, tally: &mut Tally) -> Option<(Vec<u32
     Some((assemble(book[0], &bodies), done))
 }
 
-/// Whether the model and the Rust differ about the book.
+/// Whether the model differs from what is due to the book.
 pub fn differs(book: &[u32], limit: u32) -> bool {
     match in_domain(book, limit, &mut Tally::default()) {
-        Some((part, done)) => !agrees(&done, &rust_answer(&part, limit)),
+        Some((part, done)) => !agrees(&done, &reference(&part, limit)),
         None => false,
     }
 }
 
 pub fn agrees(done: &Translated, answer: &Answer) -> bool {
-    done.text == answer.text && (done.number == 5) == answer.exceeded
+    done.text == answer.text && (done.number == 5) == answer.exceeded && answer.faults.is_empty()
 }

@@ -19,7 +19,7 @@ pub fn answer(bodies: &[&[u32]]) -> Answer {
     for (i, body) in bodies.iter().enumerate() {
         text.extend(if body[11] == 1 { &with[i] } else { &without[i] });
     }
-    Answer { text, exceeded: false }
+    Answer { text, ..Answer::default() }
 }
 
 /// All frames as one object, for bodies that agree about the string table.

@@ -29,6 +29,16 @@ pub struct Case {
 pub fn case(rng: &mut Rng, kinds: &[u32]) -> Case {
     let kind = rng.pick(kinds);
     let book = book(rng, kind);
+    call(rng, book)
+}
+
+/// One call with an x64 book whose functions are chains.
+pub fn chained_case(rng: &mut Rng) -> Case {
+    let book = chained_book(rng);
+    call(rng, book)
+}
+
+fn call(rng: &mut Rng, book: Vec<u32>) -> Case {
     let limit = limit(rng);
     let work_len = match rng.below(12) {
         0 => rng.pick(&[0, 1, 4096, WORK - 1]),
@@ -95,6 +105,13 @@ fn whole_book(rng: &mut Rng, kind: u32) -> Vec<u32> {
         bodies.push(body);
     }
     assemble(kind, &bodies)
+}
+
+/// An x64 book of one to six bodies, each of 2 to 32 infos.
+pub fn chained_book(rng: &mut Rng) -> Vec<u32> {
+    let count = if rng.one_in(8) { 6 } else { rng.from_to(1, 3) };
+    let bodies: Vec<Vec<u32>> = (0..count).map(|_| x64::chained_body(rng)).collect();
+    assemble(X64, &bodies)
 }
 
 /// A body; a PDB body may repeat one of those before it.

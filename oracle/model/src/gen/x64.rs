@@ -1,4 +1,4 @@
-//! x64 bodies. Operations are made in the order in which they run and stored reversed.
+//! x64 bodies. Operations are made in the order in which they run and stored reversed; infos are made as stored, and run last to first.
 
 use super::{near_longest, tune};
 use crate::rng::Rng;
@@ -12,6 +12,8 @@ const SET: u32 = 5;
 const MACHINE_FRAME: u32 = 6;
 const OTHER: u32 = 7;
 const UNDECODABLE: u32 = 8;
+
+const MOST_INFOS: usize = 32;
 
 type Operation = [u32; 3];
 
@@ -48,6 +50,28 @@ pub fn body(rng: &mut Rng) -> Vec<u32> {
         22 if rng.one_in(4) => long(rng),
         22 => stored(lead, &[Info(rng.below(16), rng.pick(&[0, 240, 241]), vec![])]),
         _ => stored(lead, &[machine_frame(rng)]),
+    }
+}
+
+/// A body of 2 to 32 infos: the function's own, its parent, and so on.
+pub fn chained_body(rng: &mut Rng) -> Vec<u32> {
+    let lead = lead(rng);
+    if rng.one_in(200) {
+        return long(rng);
+    }
+    loop {
+        let infos = match rng.below(16) {
+            0..=5 => split(rng),
+            6..=9 => chain(rng, 4),
+            10 | 11 => chain(rng, 33),
+            12 => parted(rng),
+            13 => at_limit(rng),
+            14 => undecodable(rng),
+            _ => set_twice(rng),
+        };
+        if (2..=MOST_INFOS).contains(&infos.len()) {
+            return stored(lead, &infos);
+        }
     }
 }
 
@@ -90,6 +114,38 @@ fn function(rng: &mut Rng) -> Info {
         operations.push([OTHER, rng.below(16), 16 * rng.below(20)]);
     }
     Info(if framed { 5 } else { 0 }, 16 * rng.below(16), operations)
+}
+
+/// A function in parts, as compilers write them: one or more over the parent's frame.
+fn split(rng: &mut Rng) -> Vec<Info> {
+    let parent = function(rng);
+    let count = rng.from_to(1, 3);
+    let mut infos: Vec<Info> = (0..count).map(|_| further(rng, parent.0, parent.1)).collect();
+    infos.push(parent);
+    infos
+}
+
+/// A part over a parent with this frame: saves in it, pushes and an allocation of its own, or nothing.
+fn further(rng: &mut Rng, frame: u32, offset: u32) -> Info {
+    let save = if frame == 0 { SAVE_RSP } else { SAVE_FP };
+    let operations = match rng.below(6) {
+        0 => vec![],
+        1 | 2 => vec![[PUSH, rng.pick(&[3, 6, 7]), 0], [PUSH, 14, 0], [ALLOCATE, 0, 8 * rng.from_to(1, 60)]],
+        _ => [3, 6, 12, 14, 15].iter().map(|register| [save, *register, 8 * rng.below(80)]).collect(),
+    };
+    Info(frame, offset, operations)
+}
+
+/// One function's operations over two or three infos, so that the order of the infos is all that a chain adds.
+fn parted(rng: &mut Rng) -> Vec<Info> {
+    let Info(register, offset, mut operations) = if rng.one_in(2) { function(rng) } else { machine_frame(rng) };
+    let mut infos = Vec::new();
+    for _ in 0..rng.from_to(1, 2) {
+        let last = operations.split_off(rng.index(operations.len() + 1));
+        infos.push(Info(register, offset, last));
+    }
+    infos.push(Info(register, offset, operations));
+    infos
 }
 
 /// Any operation that can be decoded, with words that are not read filled at random.
@@ -167,7 +223,7 @@ fn at_limit(rng: &mut Rng) -> Vec<Info> {
     let (register, offset) = (rng.below(16), rng.pick(&[0, 16, 240]));
     if rng.one_in(3) {
         let rest = operations.split_off(rng.index(operations.len() + 1));
-        return vec![Info(register, offset, operations), Info(register, offset, rest)];
+        return vec![Info(register, offset, rest), Info(register, offset, operations)];
     }
     vec![Info(register, offset, operations)]
 }

@@ -1,5 +1,5 @@
-//! Compares the port with the unchanged Rust on the books of files: `files_vs_rust FILE..`. A book that is refused fails: of these none is outside
-//! the domain, so that nothing is left out unseen.
+//! Compares the port with the unchanged Rust on the books of files, on x64 chains with the second program: `files_vs_rust FILE..`. A book that is
+//! refused fails: of these none is outside the domain, so that nothing is left out unseen.
 
 use model::files;
 use model::run::Run;

@@ -1,4 +1,4 @@
-//! Compares the port with the unchanged Rust on random books: `port_vs_rust SEED N [KINDS]`.
+//! Compares the port with the unchanged Rust on random books, on x64 chains with the second program: `port_vs_rust SEED N [KINDS]`.
 
 use model::rng::Rng;
 use model::run::{arguments, Run};

@@ -1,9 +1,9 @@
-//! Compares the lines that cases expect with the unchanged Rust's, in its domain: `cases_vs_rust [FILES..]`. Without
-//! files these are all of `tests/cases`.
+//! Compares the lines that cases expect with the unchanged Rust's, in its domain, and with the second program's on x64 chains:
+//! `cases_vs_rust [FILES..]`. Without files these are all of `tests/cases`.
 
 use model::Tally;
 use rust::cases::{case, Call};
-use rust::{in_domain, rust_answer};
+use rust::{in_domain, reference};
 use std::path::{Path, PathBuf};
 use std::{env, fs, process};
 
@@ -13,12 +13,12 @@ fn main() {
         let text = fs::read_to_string(&file).unwrap_or_else(|error| panic!("{}: {error}", file.display()));
         let (book, calls) = case(&text).unwrap_or_else(|what| panic!("{}: {what}", file.display()));
         for call in calls {
-            match agrees(&book, &call) {
-                Some(true) => passed += 1,
+            match difference(&book, &call) {
+                Some(None) => passed += 1,
                 None => outside += 1,
-                Some(false) => {
+                Some(Some(due)) => {
                     failed += 1;
-                    println!("{}, line {}: the Rust writes something else", file.display(), call.line);
+                    println!("{}, line {}: due is\n{due}", file.display(), call.line);
                 }
             }
         }
@@ -43,10 +43,11 @@ fn files() -> Vec<PathBuf> {
     files
 }
 
-/// Whether the Rust writes what is expected. None where it cannot be asked, or where the text may be cut.
-fn agrees(book: &[u32], call: &Call) -> Option<bool> {
+/// What is due where something else is expected. None where the Rust cannot be asked, or where the text may be cut.
+fn difference(book: &[u32], call: &Call) -> Option<Option<String>> {
     let text = call.text.as_ref()?;
     let (part, _) = in_domain(book, call.limit, &mut Tally::default())?;
-    let answer = rust_answer(&part, call.limit);
-    Some(answer.text == text.as_bytes() && answer.exceeded == (call.number == 5))
+    let answer = reference(&part, call.limit);
+    let agrees = answer.text == text.as_bytes() && answer.exceeded == (call.number == 5) && answer.faults.is_empty();
+    Some((!agrees).then(|| String::from_utf8_lossy(&answer.text).into_owned() + &answer.faults.join("\n")))
 }

@@ -1,10 +1,10 @@
-//! Compares the model with the unchanged Rust: `model_vs_rust SEED N [KINDS]`.
+//! Compares the model with the unchanged Rust, on x64 chains with the second program: `model_vs_rust SEED N [KINDS]`.
 
 use model::rng::Rng;
 use model::run::{arguments, Run};
 use model::shrink::shrink;
 use model::{due, gen, Tally};
-use rust::{agrees, differs, in_domain, rust_answer};
+use rust::{agrees, differs, in_domain, reference};
 
 fn main() {
     let words = arguments();
@@ -25,14 +25,15 @@ fn compare(run: &mut Run, book: &[u32], limit: u32) {
         run.outside();
         return;
     };
-    run.compared(!agrees(&done, &rust_answer(&part, limit)), || show(&part, limit));
+    run.compared(!agrees(&done, &reference(&part, limit)), || show(&part, limit));
 }
 
 fn show(book: &[u32], limit: u32) {
     let small = shrink(book, &|b| differs(b, limit));
     let (part, done) = in_domain(&small, limit, &mut Tally::default()).expect("a book of the domain");
-    let answer = rust_answer(&part, limit);
+    let answer = reference(&part, limit);
     println!("limit {limit} book {part:?}");
     println!("model {} {}", done.number, String::from_utf8_lossy(&done.text));
-    println!("rust {} {}", answer.exceeded, String::from_utf8_lossy(&answer.text));
+    println!("due {} {}", answer.exceeded, String::from_utf8_lossy(&answer.text));
+    answer.faults.iter().for_each(|fault| println!("{fault}"));
 }

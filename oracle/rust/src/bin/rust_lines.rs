@@ -1,9 +1,10 @@
-//! Prints the lines that the unchanged Rust writes for a book: `rust_lines FILE [LIMIT]`. Entries outside its domain are
-//! named on standard error; what the Rust writes for them is printed too, up to an entry that breaks its layout.
+//! Prints the lines that the unchanged Rust writes for a book: `rust_lines FILE [LIMIT]`. Entries outside its domain are named on standard error;
+//! what the Rust writes for them is printed too, up to an entry that breaks its layout. So are x64 functions with a chain, for which the port
+//! writes other lines: those of the second program.
 
 use model::book::{assemble, bodies};
-use model::{translate, Tally};
-use rust::{cases, rust_answer};
+use model::{translate, Tally, X64};
+use rust::{cases, chained, rust_answer};
 use std::io::Write;
 use std::process::exit;
 
@@ -21,6 +22,8 @@ fn main() {
         let number = number(&assemble(book[0], &[body.to_vec()]), limit);
         if ![0, 5].contains(&number) {
             eprintln!("entry {}: outside the Rust's domain, refused {number}", i + 1);
+        } else if book[0] == X64 && chained(body) {
+            eprintln!("entry {}: a chain, of which the port runs the parent first", i + 1);
         }
         if number == 4 {
             break;

@@ -1,11 +1,11 @@
-//! Writes a fixed sample of the Rust's answers to standard output: `vectors N SEED KIND`. Little-endian words: the
+//! Writes a fixed sample of the Rust's answers, on x64 chains the second program's, to standard output: `vectors N SEED KIND`. Little-endian words: the
 //! number of cases; for each its limit, number, entries, text length in bytes, book length in words, the book, the
 //! text padded with zeros to whole words.
 
 use model::gen;
 use model::rng::Rng;
 use model::Tally;
-use rust::{agrees, in_domain, rust_answer, Answer};
+use rust::{agrees, in_domain, reference, Answer};
 use std::collections::BTreeMap;
 use std::io::Write;
 
@@ -43,8 +43,8 @@ impl Sample {
             let Some((book, done)) = in_domain(&case.book, case.limit, &mut Tally::default()) else {
                 continue;
             };
-            let answer = rust_answer(&book, case.limit);
-            assert!(agrees(&done, &answer), "the model differs from the Rust");
+            let answer = reference(&book, case.limit);
+            assert!(agrees(&done, &answer), "the model differs from what is due: {:?}", answer.faults);
             if answer.text.len() <= MOST_TEXT && self.wanted(rng, &answer) {
                 return encoded(&book, case.limit, done.entries, &answer);
             }
