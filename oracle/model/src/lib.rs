@@ -9,6 +9,7 @@ pub mod dwarf;
 pub mod files;
 pub mod gen;
 pub mod names;
+pub mod order;
 pub mod pdb;
 pub mod records;
 pub mod rng;

@@ -2,6 +2,7 @@
 
 use model::book::bodies;
 use model::gen;
+use model::order::contradictions;
 use model::rng::Rng;
 use model::unwinder::{line, turned};
 use model::{x64, Judged, Tally, X64};
@@ -13,10 +14,14 @@ const RDI: u32 = 7;
 const RA: &str = ".ra: .cfa 8 - ^";
 
 /// An info as stored, the prologue's last operation first.
-struct Info<'a>(u32, u32, &'a [[u32; 3]]);
+struct Info(u32, u32, Vec<[u32; 3]>);
 
-fn plain(operations: &[[u32; 3]]) -> Info<'_> {
-    Info(0, 0, operations)
+fn plain(operations: &[[u32; 3]]) -> Info {
+    framed(0, 0, operations)
+}
+
+fn framed(register: u32, offset: u32, operations: &[[u32; 3]]) -> Info {
+    Info(register, offset, operations.to_vec())
 }
 
 fn push(register: u32) -> [u32; 3] {
@@ -85,17 +90,16 @@ fn saves_in_the_frame_of_the_parent() {
 #[test]
 fn frame_registers() {
     // push rbp; sub rsp, 64; lea rbp, [rsp + 32], and a part that saves 48 above the stack pointer there, then allocates.
-    let parent = Info(RBP, 32, &[SET, allocate(64), push(RBP)]);
+    let parent = || framed(RBP, 32, &[SET, allocate(64), push(RBP)]);
     let rules = format!(".cfa: $rbp 48 + $rbp: .cfa 16 - ^ $rbx: $rbp 16 + ^ {RA}");
-    writes(&[Info(RBP, 32, &[save_by_frame(RBX, 48)]), parent], &rules);
-    let parent = Info(RBP, 32, &[SET, allocate(64), push(RBP)]);
-    writes(&[Info(RBP, 32, &[allocate(128), save_by_frame(RBX, 48)]), parent], &rules);
+    writes(&[framed(RBP, 32, &[save_by_frame(RBX, 48)]), parent()], &rules);
+    writes(&[framed(RBP, 32, &[allocate(128), save_by_frame(RBX, 48)]), parent()], &rules);
     // The part sets it: the parent's 32 bytes lie between it and the return address.
     let rules = format!(".cfa: $rbp 48 + $rsi: .cfa 16 - ^ $rbp: .cfa 48 - ^ {RA}");
-    writes(&[Info(RBP, 0, &[SET, push(RBP)]), plain(&[allocate(24), push(RSI)])], &rules);
+    writes(&[framed(RBP, 0, &[SET, push(RBP)]), plain(&[allocate(24), push(RSI)])], &rules);
     // Each info has its own frame register and offset.
     let rules = format!(".cfa: $rbp 0 + $rsi: $rdi -8 + ^ {RA}");
-    writes(&[Info(RBP, 48, &[SET, allocate(8)]), Info(RDI, 16, &[save_by_frame(RSI, 8), allocate(32)])], &rules);
+    writes(&[framed(RBP, 48, &[SET, allocate(8)]), framed(RDI, 16, &[save_by_frame(RSI, 8), allocate(32)])], &rules);
 }
 
 #[test]
@@ -111,11 +115,36 @@ fn machine_frames() {
 
 #[test]
 fn the_other_way_round() {
-    let chain = body(&[plain(&[push(RBX)]), Info(RBP, 16, &[]), plain(&[allocate(8), push(RDI)])]);
-    let other = body(&[plain(&[allocate(8), push(RDI)]), Info(RBP, 16, &[]), plain(&[push(RBX)])]);
+    let chain = body(&[plain(&[push(RBX)]), framed(RBP, 16, &[]), plain(&[allocate(8), push(RDI)])]);
+    let other = body(&[plain(&[allocate(8), push(RDI)]), framed(RBP, 16, &[]), plain(&[push(RBX)])]);
     assert_eq!(turned(&chain), other);
     let due = format!("STACK CFI INIT 1000 40 .cfa: $rsp 32 + $rbx: .cfa 16 - ^ $rdi: .cfa 24 - ^ {RA}\n");
     assert_eq!(line(&other), due);
+}
+
+/// What a line for the chain contradicts, once a piece of it is another one.
+fn contradicted(infos: &[Info], piece: &str, other: &str) -> Vec<String> {
+    let body = body(infos);
+    let (first_to_last, due) = (line(&turned(&body)), line(&body));
+    assert!(first_to_last != due && contradictions(&body, &first_to_last, &due).is_empty());
+    assert!(first_to_last.contains(piece), "{first_to_last}");
+    let found = contradictions(&body, &first_to_last.replace(piece, other), &due);
+    found.iter().map(|fault| fault.split(':').next().unwrap_or_default().to_string()).collect()
+}
+
+#[test]
+fn what_the_order_leaves_alone() {
+    let pushes = [plain(&[push(RBX)]), plain(&[allocate(8), push(RDI)])];
+    assert_eq!(contradicted(&pushes, "1000 40", "1000 41"), ["begin and size"]);
+    assert_eq!(contradicted(&pushes, "$rsp 32", "$rsp 40"), ["the total"]);
+    assert_eq!(contradicted(&pushes, "$rsp 32", "$rbp 32"), ["the register of the CFA", "the total"]);
+    assert_eq!(contradicted(&pushes, "$rbx:", "$rdi:"), ["the names of the rules"]);
+    assert_eq!(contradicted(&pushes, " .ra: .cfa 8 - ^", ""), ["the names of the rules"]);
+    assert_eq!(contradicted(&pushes, ".cfa 16 - ^", ".cfa 80 - ^"), [""; 0]);
+    let by_frame = [framed(RBP, 16, &[save_by_frame(RBX, 48), push(RSI)]), framed(RBP, 0, &[SET, allocate(64)])];
+    assert_eq!(contradicted(&by_frame, "$rbp 80 +", "$rbp 88 +"), [""; 0]);
+    assert_eq!(contradicted(&by_frame, "$rbp 80 +", "$rsp 80 +"), ["the register of the CFA"]);
+    assert_eq!(contradicted(&by_frame, "$rbp 32 + ^", "$rbp 40 + ^"), ["the rules from a frame register"]);
 }
 
 #[test]
