@@ -1,5 +1,5 @@
-//! A second reading of document 01 in plain Rust, written from its words, and a generator of books.
-//! The port and the unchanged Rust are both compared with it.
+//! A second reading of document 01, with what document 02 has changed, in plain Rust, written from its words, and a generator of books.
+//! The port and the unchanged Rust are both compared with it; so is a second program for x64 chains, unwinder.rs.
 
 pub mod arm64;
 pub mod book;
