@@ -72,8 +72,12 @@ loop-less c = search needs
 loop-again : tie.Need-loop-again Inv-loop μ-loop
 loop-again c =
     let loop = c .before .before .before .before .before .before .loop in
+    let info-at = c .before .before .before .before .info-at in
+    let word2 = c .before .before .before .word2 in
+    let word3 = c .before .before .word3 in
     info-turn (loop .inv) (search needs)
-    (rw (c .before .before .before .word2 .ensures, c .before .before .word3 .ensures, c .before .word4 .ensures, c .before .before .before .before .info-at .ensures .0) at (c .scan-ops .ensures .0)) (c .scan-ops .ensures .1)
+    (rw (word2 .ensures, word3 .ensures, c .before .word4 .ensures, info-at .ensures .0) at (c .scan-ops .ensures .0))
+    (c .scan-ops .ensures .1)
 
 returns : tie.Need-returns Inv-loop μ-loop
 returns c = chain-scanned (c .before .loop .inv) (search needs)
