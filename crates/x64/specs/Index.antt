@@ -154,7 +154,7 @@ pub layout-few : (ws : List ℕ) → T (x64Layout ws) → infoCount ws ≤ 32
 unfolding x64Layout
 layout-few ws h = leb→le (infoCount ws) 32 (search (and-l, and-r))
 
--- of m infos from word a on
+-- each of m infos from word a on fits
 info-in : (ws : List ℕ) (m a k : ℕ) → T (infosFit ws m a) → k < m → T (infoFits ws (infoFrom ws a k))
 unfolding infosFit infoFrom
 info-in ws zero a k f h = absurd (omega arith)

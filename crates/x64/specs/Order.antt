@@ -1,14 +1,14 @@
 -- What does not depend on the order in which the infos of a chain are run (02, request 2): its total and refusals 6 and 7. Document 01 ran them
 -- first to last, as the Rust does.
-use mathlib.Core.Path.{_≡_, refl, sym, ap, _∙_}
-use Prim.Native.Nat.{ℕ, zero, suc, _+_, _^_, _<_}
+use mathlib.Core.Path.{_≡_, refl, sym, _∙_}
+use Prim.Native.Nat.{ℕ, _+_, _^_, _<_}
 use native.Mathlib.Omega.{arith}
 use native.Mathlib.Nat.{add-assoc}
 use mathlib.Core.Bool.{Bool, true, false, cond, _&&_}
 use mathlib.Core.List.{List, [], _∷_, _++_, append-nil, reverse}
-use lib.Dec.{T, ltb, leb, eqb, ltb→lt}
+use lib.Dec.{T, ltb, eqb}
 use borrow.Author.Tests.{lt-ltb, le-ltb, ltb-true, ltb-false, ne-eqb}
-use Rattle.text.specs.Tests.{and-l, and-r, all, all-append}
+use Rattle.text.specs.Tests.{all}
 use Rattle.entry.specs.Entry.{word}
 use Rattle.entry.specs.declared.Judged.{Judged}
 use Rattle.entry.specs.declared.Judged.the-variants.{Refuse, Skip, Write}
