@@ -16,7 +16,7 @@ extern "C" {
 #define STACKLINES_VERSION_MAJOR 0
 #define STACKLINES_VERSION_MINOR 2
 #define STACKLINES_VERSION_PATCH 0
-#define STACKLINES_VERSION "0.2.0"
+#define STACKLINES_VERSION "0.3.0"
 
 /* The bytes that the work area needs. */
 #define STACKLINES_WORK 8192
