@@ -14,7 +14,7 @@ extern "C" {
 
 /* The version of this header and of the archive that it belongs to. */
 #define STACKLINES_VERSION_MAJOR 0
-#define STACKLINES_VERSION_MINOR 2
+#define STACKLINES_VERSION_MINOR 3
 #define STACKLINES_VERSION_PATCH 0
 #define STACKLINES_VERSION "0.3.0"
 
