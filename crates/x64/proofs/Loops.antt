@@ -10,7 +10,7 @@ use Rattle.text.specs.Text.{Put, Left}
 use Rattle.text.specs.Text.Laws.{left-all, left-put, left-as, left-none}
 use Rattle.text.specs.Tests.{and-l, and-r}
 use Rattle.x64.specs.X64.{infoCount, chain, growthOf, valueOf, run, opText}
-use Rattle.x64.specs.Index.{opAt, opsRun, infoOps, infoAt, infosRun, growths, within, reaches}
+use Rattle.x64.specs.Index.{opAt, opsRun, infoOps, infoAt, infosRun, tally, growths, within, reaches}
 use Rattle.x64.specs.Index.{ops-step, chain-step, chain-run, run-append, reaches-append, reaches-small}
 
 -- k operations of an info are left, at total s
@@ -32,7 +32,7 @@ module _ {ws : List ℕ} {f o a : ℕ} {d : List ℕ} {at : ℕ} {t : List ℕ} 
   pub ops-turn : {d₂ : List ℕ} {q : ℕ} → OpsLeft ws f o a d at t e d₁ p s k → 0 < k
       → Put d₁ p (opText s (opAt ws f o (a + 3 * (k - 1)))) d₂ q
       → OpsLeft ws f o a d at t e d₂ q (s + growthOf (opAt ws f o (a + 3 * (k - 1)))) (k - 1)
-  unfolding reaches growths run
+  unfolding reaches tally run
   ops-turn l h x = record {
     small = ops-within l h;
     few = omega (arith, l .few);
@@ -42,7 +42,7 @@ module _ {ws : List ℕ} {f o a : ℕ} {d : List ℕ} {at : ℕ} {t : List ℕ} 
   }
 
   pub ops-done : OpsLeft ws f o a d at t e d₁ p s k → k ≤ 0 → Put d at t d₁ p × (s ≡ e)
-  unfolding opsRun growths run
+  unfolding opsRun tally run
   ops-done l h = let z : k ≡ 0 = omega arith in (left-none (rw z at (l .text)), omega (arith, rw z at (l .ends)))
 
 -- the first m infos are left, at total s

@@ -50,7 +50,7 @@ module _ {ws : List ℕ} {z s : Scan} {m : ℕ} where
   unfolding scanned infosRun
   chain-scanned l h = let e : m ≡ 0 = omega arith in rw e at (l .rest)
 
--- ---- the loops that go over infos from the first on: m of them are left, at word a, and there are as many
+-- ---- the loops that go over infos from the first on: m are left to look at, from word a on, of those that there are
 pub record InfosLeft (ws : List ℕ) (a m : ℕ) : Type 0 where
   pub infos : ℕ
   pub more : m ≤ infos

@@ -86,10 +86,14 @@ chain-run ws = infos-run ws (infoCount ws) 4
 
 -- ---- the total
 
+-- what f gives of each operation, added up
+unfoldable pub tally : (Op → ℕ) → List Op → ℕ
+tally f [] = 0
+tally f (o ∷ os) = f o + tally f os
+
 -- what operations add to the total
-unfoldable pub growths : List Op → ℕ
-growths [] = 0
-growths (o ∷ os) = growthOf o + growths os
+abbrev pub growths : List Op → ℕ
+growths os = tally growthOf os
 
 -- the value that an operation uses and the total after it are below 2^31: what the code tests for refusal 6
 abbrev pub within : ℕ → Op → Bool
@@ -167,12 +171,12 @@ info-few ws k l h = count-small ws (infoAt ws k) (info-in ws (infoCount ws) 4 k 
 -- ---- of two rows, one after the other
 
 pub run-append : {A : Type 0} (f : ℕ → Op → List A) (S : ℕ) (xs ys : List Op) → run f S (xs ++ ys) ≡ run f S xs ++ run f (S + growths xs) ys
-unfolding run growths
+unfolding run tally
 run-append f S [] ys = let e : S + 0 ≡ S = omega arith in rw e
 run-append f S (x ∷ xs) ys = rw (run-append f (S + growthOf x) xs ys, append-assoc (f S x) (run f (S + growthOf x) xs) _, add-assoc S (growthOf x) (growths xs))
 
 pub reaches-append : (S : ℕ) (xs ys : List Op) → T (reaches S (xs ++ ys)) → T (reaches S xs) × T (reaches (S + growths xs) ys)
-unfolding reaches growths
+unfolding reaches tally
 reaches-append S [] ys h = let e : S + 0 ≡ S = omega arith in (tt, rw e h)
 reaches-append S (x ∷ xs) ys h =
     let r = reaches-append (S + growthOf x) xs ys (and-r (within S x) _ h) in
@@ -180,7 +184,7 @@ reaches-append S (x ∷ xs) ys h =
 
 -- a total that is in reach stays below 2^31
 pub reaches-small : (S : ℕ) (os : List Op) → S < 2 ^ 31 → T (reaches S os) → S + growths os < 2 ^ 31
-unfolding reaches growths
+unfolding reaches tally
 reaches-small S [] k h = omega arith
 reaches-small S (o ∷ os) k h =
     let w : T (within S o) = and-l (within S o) _ h in
