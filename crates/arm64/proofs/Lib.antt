@@ -1,1 +1,2 @@
+pub mod Sense
 pub mod Loops

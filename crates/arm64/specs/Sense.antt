@@ -1,6 +1,6 @@
 -- The sense of an ARM64 entry (document 01, "Sense" and "ARM64 body"): its lines, with each operation's T by a sum over those run before it, and
 -- save-next by the last earlier pair. With the text's definitions it shares the operations in the order in which they are run (`ops`) and the
--- names; that the two agree is proved in Sense/Laws.antt.
+-- names; that the two agree is proved in proofs/Sense.antt.
 use Rattle.std.specs.Prelude.{ℕ, zero, suc, ◌+◌, ◌*◌, Bool, true, not, cond, ◌&&◌, List, [], ◌∷◌, ◌++◌, length, ℤ, pos, ◌+ℤ◌, eqb}
 use Rattle.std.proofs.Math.IntN.{sub_ℕ}
 use Rattle.text.specs.Text.{ascii}
@@ -11,7 +11,6 @@ use Rattle.entry.specs.Entry.{word}
 use Rattle.arm64.specs.declared.Op.{Op}
 use Rattle.arm64.specs.declared.Op.TheVariants.{AllocStack, SaveReg, SaveRegPreindexed, SaveRegPair, SaveRegPairPreindexed, SaveLrPair, SaveNext, Other, End, Undecodable}
 use Rattle.arm64.specs.Arm64.{ops}
-pub mod Laws
 
 -- ---- sums and pairs
 

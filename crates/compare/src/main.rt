@@ -1,10 +1,9 @@
 // compare FILE FILE: says whether two books have the same records, each with limit 32 and a text buffer of 1 MiB.
 #![tactic(auto)]
 
-ghost use Rattle.std.specs.Prelude.{◌≡◌, IfOk, vec_len};
+ghost use Rattle.std.specs.Prelude.{◌≡◌, length};
 
 use records::Compared;
-use std::alloc::{AllocError, Global};
 use std::fs::File;
 use std::rt::Files;
 use std::{env, io};
@@ -12,10 +11,10 @@ use std::{env, io};
 const LIMIT: u32 = 32;
 
 // A book has at most 16,384 words, and none gives 64 bytes of text. The length is all that the proofs look at.
-fn text_buffer(alloc: Global) -> Result<Vec<u8>, AllocError>
-    ensures { IfOk result (λ text. vec_len text ≡ 1048576) }
+fn text_buffer() -> [u8; 1048576]
+    ensures { 1048576 ≡ length result }
 {
-    Ok(vec![in alloc; 0; 1048576]?)
+    [0; 1048576]
 }
 
 // Says why a file cannot be opened, in the system's words without its number.
@@ -38,10 +37,10 @@ fn opened<R: Files + Eprint + AllocGlobal>(rt: &R, path: &str) -> io::Result<Opt
     }
 }
 
-fn say_refusal(rt: &(impl Print + AllocGlobal), which: &str, book: &[u32]) -> io::Result<()> {
+fn say_refusal(rt: &impl Print, which: &str, book: &[u32]) -> io::Result<()> {
     let mut work = [0u8; 8192];
-    let mut text = text_buffer(rt.alloc())?;
-    let r = translate::translate(book, LIMIT, &mut work, text.as_mut_slice());
+    let mut text = text_buffer();
+    let r = translate::translate(book, LIMIT, &mut work, &mut text);
     let number = r.number;
     if number != 0 {
         println!(rt; "{which} book refused {number}")?;
@@ -49,25 +48,25 @@ fn say_refusal(rt: &(impl Print + AllocGlobal), which: &str, book: &[u32]) -> io
     Ok(())
 }
 
-fn compared(alloc: Global, a: &[u32], b: &[u32]) -> Result<Compared, AllocError> {
+fn compared(a: &[u32], b: &[u32]) -> Compared {
     let mut work_a = [0u8; 8192];
-    let mut text_a = text_buffer(alloc)?;
+    let mut text_a = text_buffer();
     let mut work_b = [0u8; 8192];
-    let mut text_b = text_buffer(alloc)?;
-    Ok(records::same_records(
+    let mut text_b = text_buffer();
+    records::same_records(
         a,
         LIMIT,
         &mut work_a,
-        text_a.as_mut_slice(),
+        &mut text_a,
         b,
         LIMIT,
         &mut work_b,
-        text_b.as_mut_slice(),
-    ))
+        &mut text_b,
+    )
 }
 
-fn say(rt: &(impl Print + AllocGlobal), a: &[u32], b: &[u32]) -> io::Result<()> {
-    match compared(rt.alloc(), a, b)? {
+fn say(rt: &impl Print, a: &[u32], b: &[u32]) -> io::Result<()> {
+    match compared(a, b) {
         Compared::Same => println!(rt; "same records"),
         Compared::Different => println!(rt; "different records"),
         Compared::OtherKind => println!(rt; "books of two kinds"),

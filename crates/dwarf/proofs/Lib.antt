@@ -1,3 +1,4 @@
+pub mod Sense
 pub mod Ints
 pub mod Places
 pub mod Store

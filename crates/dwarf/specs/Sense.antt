@@ -1,6 +1,6 @@
 -- The sense of a DWARF entry (document 01, "Sense"): its lines, each rule judged by the last earlier row that names its register.
 -- With the text's definitions it shares what the body's words hold (`Row`, `rows`, the load address and the first start, `twos`) and the names; that
--- the two agree is proved in Sense/Laws.antt. A body's words are b.
+-- the two agree is proved in proofs/Sense.antt. A body's words are b.
 use Rattle.std.specs.Prelude.{ℕ, ◌-◌, Bool, true, false, not, cond, ◌&&◌, ◌||◌, List, [], ◌∷◌, ◌++◌, ℤ, eqb, leb}
 use Rattle.text.specs.Text.{ascii}
 use Rattle.tables.specs.Tables.{cfi_name}
@@ -9,7 +9,6 @@ use Rattle.entry.specs.Entry.{word}
 use Rattle.dwarf.specs.declared.RegisterRule.{RegisterRule}
 use Rattle.dwarf.specs.declared.CfaRule.{CfaRule}
 use Rattle.dwarf.specs.Dwarf.{twos, Row, rows, load_address, first_start}
-pub mod Laws
 
 -- ---- the last earlier row
 

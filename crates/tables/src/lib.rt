@@ -512,6 +512,7 @@ pub fn pe_mark(register: u32) -> u64
 }
 
 // The packed name of a register in DWARF rows, for the families as `CpuFamily` numbers them.
+#[tactic(auto, unfolding(crate::specs::Tables::cfi_name, crate::specs::Tables::table))]
 pub fn cfi_mark(family: u32, register: u32) -> u64
     ensures { unpack result ≡ cfi_name family register }
 {

@@ -12,7 +12,6 @@ use Rattle.arm64.specs.Sense.{arm_lines}
 use Rattle.dwarf.specs.Sense.{dwarf_lines}
 use Rattle.pdb.specs.Sense.{last_unskipped, pdb_lines}
 use Rattle.translate.specs.Outcome.{Outcome}
-pub mod Laws
 
 -- ---- the sense
 

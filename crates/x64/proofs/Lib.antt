@@ -1,3 +1,4 @@
+pub mod Sense
 pub mod Rules
 pub mod Loops
 pub mod Passes

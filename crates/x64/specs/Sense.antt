@@ -1,6 +1,6 @@
 -- The sense of an x64 entry (document 01, "Sense"): its line, with each operation's S by a sum over those run before it.
 -- With the text's definitions it shares the operations in the order in which they are run (`chain`) and the names; that the two agree is proved in
--- Sense/Laws.antt.
+-- proofs/Sense.antt.
 use Rattle.std.specs.Prelude.{ℕ, zero, suc, ◌+◌, ◌-◌, cond, List, [], ◌∷◌, ◌++◌, length, get_or, take, pos, eqb}
 use Rattle.std.proofs.Math.IntN.{sub_ℕ}
 use Rattle.text.specs.Text.{ascii}
@@ -10,7 +10,6 @@ use Rattle.entry.specs.Entry.{word}
 use Rattle.x64.specs.declared.Op.{Op}
 use Rattle.x64.specs.declared.Op.TheVariants.{PushNonVolatile, Alloc, SaveRsp, SaveFp, SetFpRegister, PushMachineFrame, Other, Undecodable}
 use Rattle.x64.specs.X64.{chain}
-pub mod Laws
 
 -- ---- what an operation recovers, where its S is known
 

@@ -7,7 +7,7 @@ use Rattle.book.specs.Book.{kind}
 use Rattle.translate.specs.declared.Returned.{Returned}
 use Rattle.translate.specs.Outcome.{outcome, Called}
 use Rattle.translate.specs.Sense.{sense, text_of}
-use Rattle.translate.specs.Sense.Laws.{same_text_same_sense}
+use Rattle.translate.proofs.Sense.{same_text_same_sense}
 use Rattle.records.specs.declared.Compared.{Compared}
 use Rattle.records.specs.declared.Compared.TheVariants.{Same, Different}
 use Rattle.records.specs.Compare.{compared_of, Compares}

@@ -66,23 +66,18 @@ record After (ds : List Op) (T : ℕ) (p : Saved) : Type 0 where
   total_is : T ≡ sum ds
   pair_is : slot_of p ≡ last_pair ds
 
--- a register saved by itself leaves the last pair as it was: each law that rests on this shows it itself, so that a wrong `last_pair` is refused in the
--- law and not in a lemma below it
-abbrev SingleKeeps : Type 0
-SingleKeeps = (l r v : ℕ) (ds : List Op) → last_pair (SaveReg l r v ∷ ds) ≡ last_pair ds
-
-kept : SingleKeeps → (ds : List Op) (T : ℕ) (p : Saved) (o : Op) → After ds T p → After (o ∷ ds) (T + growth_of o) (last_after T p o)
+kept : (ds : List Op) (T : ℕ) (p : Saved) (o : Op) → After ds T p → After (o ∷ ds) (T + growth_of o) (last_after T p o)
 unfolding growth_of last_after sum added_by last_pair slot_of
-kept single ds T p (AllocStack v) h = record { total_is = rw h.total_is; pair_is = h.pair_is }
-kept single ds T p (SaveReg l r v) h = record { total_is = rw h.total_is; pair_is = h.pair_is ∙ sym (single l r v ds) }
-kept single ds T p (SaveRegPreindexed l r v) h = record { total_is = rw h.total_is; pair_is = h.pair_is }
-kept single ds T p (SaveRegPair l r v) h = record { total_is = rw h.total_is; pair_is = rw (← h.total_is) (sym (next_above (saved l r v T))) }
-kept single ds T p (SaveRegPairPreindexed l r v) h = record { total_is = rw h.total_is; pair_is = rw (← h.total_is) (sym (next_above (saved l r 0 (T + v)))) }
-kept single ds T p (SaveLrPair r v) h = record { total_is = rw h.total_is; pair_is = h.pair_is }
-kept single ds T p SaveNext h = record { total_is = rw h.total_is; pair_is = rw (← h.pair_is, next_above p, next_above (above p)) }
-kept single ds T p Other h = record { total_is = rw h.total_is; pair_is = h.pair_is }
-kept single ds T p End h = record { total_is = rw h.total_is; pair_is = h.pair_is }
-kept single ds T p Undecodable h = record { total_is = rw h.total_is; pair_is = h.pair_is }
+kept ds T p (AllocStack v) h = record { total_is = rw h.total_is; pair_is = h.pair_is }
+kept ds T p (SaveReg l r v) h = record { total_is = rw h.total_is; pair_is = h.pair_is }
+kept ds T p (SaveRegPreindexed l r v) h = record { total_is = rw h.total_is; pair_is = h.pair_is }
+kept ds T p (SaveRegPair l r v) h = record { total_is = rw h.total_is; pair_is = rw (← h.total_is) (sym (next_above (saved l r v T))) }
+kept ds T p (SaveRegPairPreindexed l r v) h = record { total_is = rw h.total_is; pair_is = rw (← h.total_is) (sym (next_above (saved l r 0 (T + v)))) }
+kept ds T p (SaveLrPair r v) h = record { total_is = rw h.total_is; pair_is = h.pair_is }
+kept ds T p SaveNext h = record { total_is = rw h.total_is; pair_is = rw (← h.pair_is, next_above p, next_above (above p)) }
+kept ds T p Other h = record { total_is = rw h.total_is; pair_is = h.pair_is }
+kept ds T p End h = record { total_is = rw h.total_is; pair_is = h.pair_is }
+kept ds T p Undecodable h = record { total_is = rw h.total_is; pair_is = h.pair_is }
 
 -- ---- an operation's text is its rules' text
 
@@ -208,20 +203,14 @@ module _ (ds : List Op) (T : ℕ) (p : Saved) (o : Op) (h : After ds T p) where
       (ap (λ (l : Bytes). l ++ ascii "\n") (append_assoc (init_text a z) (rules_text rs) (rules_text (defaults rs))))
   line_text_lem a z (suc i) = rw (op_text_lem ds T p o h)
 
-run_text : SingleKeeps → (a z : ℕ) (ds : List Op) (T : ℕ) (p : Saved) (os : List Op) → After ds T p
-    → run a z (length ds) T p os ≡ render true (lines_from a z ds os)
+run_text : (a z : ℕ) (ds : List Op) (T : ℕ) (p : Saved) (os : List Op) → After ds T p → run a z (length ds) T p os ≡ render true (lines_from a z ds os)
 unfolding run lines_from render
-run_text single a z ds T p [] h = refl
-run_text single a z ds T p (o ∷ os) h =
-    rw (line_text_lem ds T p o h a z (length ds), run_text single a z (o ∷ ds) (T + growth_of o) (last_after T p o) os (kept single ds T p o h))
-
-text_run : SingleKeeps → (ws : List ℕ) → arm_text ws ≡ render true (arm_lines ws)
-unfolding arm_text arm_lines sum last_pair slot_of
-text_run single ws = run_text single (word ws 0) (word ws 1) [] 0 no_pair (ops ws) (record { total_is = refl; pair_is = refl })
+run_text a z ds T p [] h = refl
+run_text a z ds T p (o ∷ os) h = rw (line_text_lem ds T p o h a z (length ds), run_text a z (o ∷ ds) (T + growth_of o) (last_after T p o) os (kept ds T p o h))
 
 pub arm_text_lem : (ws : List ℕ) → arm_text ws ≡ render true (arm_lines ws)
-unfolding last_pair
-arm_text_lem ws = text_run (λ l r v ds. refl) ws
+unfolding arm_text arm_lines sum last_pair slot_of
+arm_text_lem ws = run_text (word ws 0) (word ws 1) [] 0 no_pair (ops ws) (record { total_is = refl; pair_is = refl })
 
 -- ---- an entry that is not refused: its text is that of its lines, unless it is skipped
 
@@ -230,9 +219,8 @@ unfolding arm_entry arm_judged
 arm_accepted last ws = accepted (arm_layout ws) (arm_skipped ws) (in_reach (word ws 0) 0 0 no_pair (ops ws)) 6 (arm_text ws) last last (λ e z. omega arith)
 
 pub arm_entry_text : (last : Last) (ws : List ℕ) → (arm_entry last ws).number ≡ 0 → (arm_entry last ws).text ≡ render true (cond (arm_skipped ws) [] (arm_lines ws))
-unfolding arm_entry last_pair
-arm_entry_text last ws e =
-    (arm_accepted last ws e).text_is ∙ render_unless true (arm_skipped ws) (arm_text ws) (arm_lines ws) (text_run (λ l r v ds. refl) ws)
+unfolding arm_entry
+arm_entry_text last ws e = (arm_accepted last ws e).text_is ∙ render_unless true (arm_skipped ws) (arm_text ws) (arm_lines ws) (arm_text_lem ws)
 
 -- ---- every line is well formed
 

@@ -1,5 +1,5 @@
 -- The text of a DWARF entry as its rows are run is the text of its sense, and the lines are well formed.
-use Rattle.std.specs.Prelude.{◌≡◌, refl, ℕ, zero, suc, ◌-◌, Bool, true, false, not, cond, ◌&&◌, ◌||◌, List, [], ◌∷◌, ◌++◌, ℤ, T, eqb, leb}
+use Rattle.std.specs.Prelude.{◌≡◌, refl, ℕ, zero, suc, ◌+◌, ◌-◌, Bool, true, false, not, cond, ◌&&◌, ◌||◌, List, [], ◌∷◌, ◌++◌, ℤ, T, eqb, leb}
 use Rattle.std.proofs.Common.{sym, ap, ap₂, ◌∙◌, append_assoc, append-nil, arith}
 use Rattle.std.proofs.Math.Path.{fun_ext}
 use Rattle.text.specs.Text.{ascii}
@@ -51,9 +51,10 @@ unfolding or_seen
 or_seen_lem [] y s = refl
 or_seen_lem (a ∷ x) y s = refl
 
--- one row more is the last: each law that rests on this proves it itself, so that a wrong `last_rule` is refused in the law and not in a lemma below it
-abbrev LastIsLater : Type 0
-LastIsLater = (ds : List Row) (w : Row) (r : ℕ) → last_rule (ds ++ (w ∷ [])) r ≡ or_else (rule_for r w.rules) (last_rule ds r)
+rule_snoc : (ds : List Row) (w : Row) (r : ℕ) → last_rule (ds ++ (w ∷ [])) r ≡ or_else (rule_for r w.rules) (last_rule ds r)
+unfolding last_rule
+rule_snoc [] w r = sym (or_else_none (rule_for r w.rules))
+rule_snoc (d ∷ ds) w r = rw (rule_snoc ds w r) (or_else_assoc (rule_for r w.rules) (last_rule ds r) (rule_for r d.rules))
 
 cfa_snoc : (ds : List Row) (w : Row) → last_cfa_rule (ds ++ (w ∷ [])) ≡ w.cfa ∷ []
 unfolding last_cfa_rule
@@ -74,10 +75,10 @@ after_rules c [] r = refl
 after_rules c (x ∷ xs) r =
     after_rules (remember c x) xs r ∙ ap (or_seen (rule_for r xs)) (remember_rule c x r) ∙ sym (or_seen_lem (rule_for r xs) (cond (eqb x.register r) (x ∷ []) []) (c r))
 
-after_row : LastIsLater → (ds : List Row) (w : Row) (r : ℕ) → seen_after (seen_by (last_rule ds)) w.rules r ≡ seen_by (last_rule (ds ++ (w ∷ []))) r
+after_row : (ds : List Row) (w : Row) (r : ℕ) → seen_after (seen_by (last_rule ds)) w.rules r ≡ seen_by (last_rule (ds ++ (w ∷ []))) r
 unfolding seen_by
-after_row snoc ds w r =
-    after_rules (seen_by (last_rule ds)) w.rules r ∙ sym (or_seen_lem (rule_for r w.rules) (last_rule ds r) never) ∙ ap (λ (xs : List RegisterRule). or_seen xs never) (sym (snoc ds w r))
+after_row ds w r =
+    after_rules (seen_by (last_rule ds)) w.rules r ∙ sym (or_seen_lem (rule_for r w.rules) (last_rule ds r) never) ∙ ap (λ (xs : List RegisterRule). or_seen xs never) (sym (rule_snoc ds w r))
 
 rule_differs_lem : (ys : List RegisterRule) (x : RegisterRule) → differs (or_seen ys never) x.kind x.value ≡ rule_differs ys x
 unfolding or_seen rule_differs
@@ -244,14 +245,14 @@ row_ran b ds w h =
       cfa_differs_lem (last_cfa_rule ds) w.cfa,
     )
 
-rows_ran : LastIsLater → (b : List ℕ) (ds : List Row) (s : CfaSeen) (c : ℕ → Seen) (ws : List Row) → s ≡ cfa_seen (last_cfa_rule ds) → c ≡ seen_by (last_rule ds) → T (all row_once ws)
+rows_ran : (b : List ℕ) (ds : List Row) (s : CfaSeen) (c : ℕ → Seen) (ws : List Row) → s ≡ cfa_seen (last_cfa_rule ds) → c ≡ seen_by (last_rule ds) → T (all row_once ws)
     → render false (dwarf_rows b ds ws) ≡ ran_rows (fde_of b) s c ws
 unfolding ran_rows dwarf_rows render cfa_seen
-rows_ran snoc b ds s c [] i j h = refl
-rows_ran snoc b ds s c (w ∷ ws) i j h =
+rows_ran b ds s c [] i j h = refl
+rows_ran b ds s c (w ∷ ws) i j h =
     rw (i, j) (render_append false (dwarf_row b ds w) _ ∙ ap₂ (λ (s t : Bytes). s ++ t) (row_ran b ds w (and_l (row_once w) _ h))
-    (rows_ran snoc b (ds ++ (w ∷ [])) (last_cfa w.cfa) (seen_after (seen_by (last_rule ds)) w.rules) ws (ap cfa_seen (sym (cfa_snoc ds w)))
-    (fun_ext λ r. after_row snoc ds w r) (and_r (row_once w) _ h)))
+    (rows_ran b (ds ++ (w ∷ [])) (last_cfa w.cfa) (seen_after (seen_by (last_rule ds)) w.rules) ws (ap cfa_seen (sym (cfa_snoc ds w)))
+    (fun_ext λ r. after_row ds w r) (and_r (row_once w) _ h)))
 
 rows_once : (ws : List ℕ) (m a : ℕ) → T (rows_fit ws m a) → T (all row_once (rows_from ws m a))
 unfolding rows_fit rows_from
@@ -259,18 +260,10 @@ rows_once ws zero a h = tt
 rows_once ws (suc m) a h =
     both (row_once (row_at ws a)) _ (row_once_lem ws a (and_l (row_fits ws a) _ h)) (rows_once ws m (next_row ws a) (and_r (row_fits ws a) _ h))
 
-text_ran : LastIsLater → (b : List ℕ) → T (rows_fit b (row_count b) 7) → dwarf_text b ≡ render false (dwarf_lines b)
-unfolding dwarf_text dwarf_lines rows nothing_seen last_rule last_cfa_rule seen_by or_seen cfa_seen
-text_ran snoc b h = sym (rows_ran snoc b [] no_cfa nothing_seen (rows b) refl refl (rows_once b (row_count b) 7 h))
-
 -- the text as it is run is the rendering of the lines
 pub dwarf_text_lem : (b : List ℕ) → T (rows_fit b (row_count b) 7) → dwarf_text b ≡ render false (dwarf_lines b)
-unfolding last_rule
-dwarf_text_lem b h = text_ran snoc b h
-  where
-    snoc : LastIsLater
-    snoc [] w r = sym (or_else_none (rule_for r w.rules))
-    snoc (d ∷ ds) w r = rw (snoc ds w r) (or_else_assoc (rule_for r w.rules) (last_rule ds r) (rule_for r d.rules))
+unfolding dwarf_text dwarf_lines rows nothing_seen last_rule last_cfa_rule seen_by or_seen cfa_seen
+dwarf_text_lem b h = sym (rows_ran b [] no_cfa nothing_seen (rows b) refl refl (rows_once b (row_count b) 7 h))
 
 -- ---- an entry that is not refused: its text is that of its lines, unless it is skipped
 
@@ -279,14 +272,10 @@ unfolding dwarf_entry dwarf_judged
 dwarf_accepted last b = accepted (dwarf_layout b) (dwarf_skipped b) (dwarf_reach b) 6 (dwarf_text b) last last (λ e z. omega arith)
 
 pub dwarf_entry_text : (last : Last) (b : List ℕ) → (dwarf_entry last b).number ≡ 0 → (dwarf_entry last b).text ≡ render false (cond (dwarf_skipped b) [] (dwarf_lines b))
-unfolding dwarf_entry last_rule
+unfolding dwarf_entry
 dwarf_entry_text last b e =
     let a = dwarf_accepted last b e in
-    a.text_is ∙ render_unless false (dwarf_skipped b) (dwarf_text b) (dwarf_lines b) (text_ran snoc b (layout_rows b a.keeps))
-  where
-    snoc : LastIsLater
-    snoc [] w r = sym (or_else_none (rule_for r w.rules))
-    snoc (d ∷ ds) w r = rw (snoc ds w r) (or_else_assoc (rule_for r w.rules) (last_rule ds r) (rule_for r d.rules))
+    a.text_is ∙ render_unless false (dwarf_skipped b) (dwarf_text b) (dwarf_lines b) (dwarf_text_lem b (layout_rows b a.keeps))
 
 -- ---- the lines are well formed
 

@@ -128,17 +128,12 @@ ra_text_lem os = rw (machine_counted os) (go (eqb (machine_frames os) 0))
     go true = append-nil _ ∙ saved_rule (ascii ".ra") (pos 8)
     go false = refl
 
--- what `sums` gives is the run from 8: each law that rests on this shows it itself, so that a wrong `sums` is refused in the law and not in a lemma
--- below it
-abbrev SumsRun : List Op → Type 0
-SumsRun os = (sums op_rules os ≡ run op_rules 8 os) × (sums op_cfa os ≡ run op_cfa 8 os)
-
-rules_text_lem : (os : List Op) → SumsRun os → rules_text (x64_rules os) ≡ rules_run os
+rules_text_lem : (os : List Op) → rules_text (x64_rules os) ≡ rules_run os
 unfolding x64_rules rules_run rules_text
-rules_text_lem os s = rw (
+rules_text_lem os = rw (
   rules_append (sums op_rules os) (ra_rules os),
-  s.0,
-  s.1,
+  sums_run op_rules os,
+  sums_run op_cfa os,
   sum_total 8 os,
   ops_text 8 os,
   ra_text_lem os,
@@ -146,15 +141,11 @@ rules_text_lem os s = rw (
   sets_text 8 os,
 ) (sym (append_assoc (cfa_or (run set_text 8 os) (total 8 os)) (run op_text 8 os) (ra_text (any_machine os))))
 
-text_run : (ws : List ℕ) → SumsRun (chain ws) → x64_text ws ≡ render false (x64_line ws ∷ [])
-unfolding x64_text x64_line render line_text init_text
-text_run ws s =
-    let i : Bytes = ascii "STACK CFI INIT " ++ hex (word ws 0) ++ ascii " " ++ hex (word ws 1 - word ws 0) in
-    sym (append-nil (i ++ rules_text (x64_rules (chain ws)) ++ ascii "\n") ∙ ap (λ (t : Bytes). i ++ t ++ ascii "\n") (rules_text_lem (chain ws) s))
-
 pub x64_text_lem : (ws : List ℕ) → x64_text ws ≡ render false (x64_line ws ∷ [])
-unfolding sums sum
-x64_text_lem ws = text_run ws (from op_rules [] (chain ws), from op_cfa [] (chain ws))
+unfolding x64_text x64_line render line_text init_text
+x64_text_lem ws =
+    let i : Bytes = ascii "STACK CFI INIT " ++ hex (word ws 0) ++ ascii " " ++ hex (word ws 1 - word ws 0) in
+    sym (append-nil (i ++ rules_text (x64_rules (chain ws)) ++ ascii "\n") ∙ ap (λ (t : Bytes). i ++ t ++ ascii "\n") (rules_text_lem (chain ws)))
 
 -- ---- the line is well formed
 
@@ -191,12 +182,12 @@ unfolding run
 run_ok p f h S [] = tt
 run_ok p f h S (o ∷ os) = all_append p (f S o) _ (h S o) (run_ok p f h (S + growth_of o) os)
 
-ok_run : (ws : List ℕ) → SumsRun (chain ws) → T (line_ok (x64_line ws))
+pub x64_ok : (ws : List ℕ) → T (line_ok (x64_line ws))
 unfolding x64_line x64_rules cfa_form ra_rules
-ok_run ws s =
+x64_ok ws =
     let os = chain ws in
-    both (form_ok (cfa_form (sums op_cfa os) (8 + sum os))) _ (first (sums op_cfa os) (8 + sum os) (rw s.1 (run_ok form_ok op_cfa cfa_ok 8 os)))
-    (all_append rule_ok (sums op_rules os) (ra_rules os) (rw s.0 (run_ok rule_ok op_rules op_ok 8 os)) (last (eqb (machine_frames os) 0)))
+    both (form_ok (cfa_form (sums op_cfa os) (8 + sum os))) _ (first (sums op_cfa os) (8 + sum os) (rw (sums_run op_cfa os) (run_ok form_ok op_cfa cfa_ok 8 os)))
+    (all_append rule_ok (sums op_rules os) (ra_rules os) (rw (sums_run op_rules os) (run_ok rule_ok op_rules op_ok 8 os)) (last (eqb (machine_frames os) 0)))
   where
     first : (fs : List Form) (S : ℕ) → T (all form_ok fs) → T (form_ok (cfa_form fs S))
     first [] S h = tt
@@ -205,10 +196,6 @@ ok_run ws s =
     last : (t : Bool) → T (all rule_ok (cond t (rule (ascii ".ra") (at_cfa_minus (pos 8)) ∷ []) []))
     last true = tt
     last false = tt
-
-pub x64_ok : (ws : List ℕ) → T (line_ok (x64_line ws))
-unfolding sums sum
-x64_ok ws = ok_run ws (from op_rules [] (chain ws), from op_cfa [] (chain ws))
 
 -- ---- an entry that is not refused: its text is that of its line, unless it is skipped
 
@@ -220,15 +207,12 @@ x64_accepted limit last ws =
 
 pub x64_entry_text : (limit : ℕ) (last : Last) (ws : List ℕ) → (x64_entry limit last ws).number ≡ 0
     → (x64_entry limit last ws).text ≡ render false (cond (x64_skipped limit ws) [] (x64_lines ws))
-unfolding x64_entry x64_lines sums sum
-x64_entry_text limit last ws e =
-    let s : SumsRun (chain ws) = (from op_rules [] (chain ws), from op_cfa [] (chain ws)) in
-    (x64_accepted limit last ws e).text_is ∙ render_unless false (x64_skipped limit ws) (x64_text ws) (x64_lines ws) (text_run ws s)
+unfolding x64_entry x64_lines
+x64_entry_text limit last ws e = (x64_accepted limit last ws e).text_is ∙ render_unless false (x64_skipped limit ws) (x64_text ws) (x64_lines ws) (x64_text_lem ws)
 
 pub x64_entry_ok : (ws : List ℕ) → T (all line_ok (x64_lines ws))
-unfolding x64_lines sums sum
-x64_entry_ok ws =
-    let s : SumsRun (chain ws) = (from op_rules [] (chain ws), from op_cfa [] (chain ws)) in both (line_ok (x64_line ws)) true (ok_run ws s) tt
+unfolding x64_lines
+x64_entry_ok ws = both (line_ok (x64_line ws)) true (x64_ok ws) tt
 
 -- ---- the law of the CFA
 
@@ -257,18 +241,11 @@ no_set S (PushMachineFrame e ∷ os) h = no_set (S + growth_of (PushMachineFrame
 no_set S (Other ∷ os) h = no_set (S + growth_of Other) os (omega arith)
 no_set S (Undecodable ∷ os) h = no_set (S + growth_of Undecodable) os (omega arith)
 
-cfa_run : (ws : List ℕ) → SumsRun (chain ws) → set_count (chain ws) ≡ 0
-    → x64_line ws ≡ init (word ws 0) (word ws 1 - word ws 0)
-    (rule cfa (register_plus (ascii "$rsp") (pos (8 + (8 * pushes (chain ws) + allocations (chain ws) + 40 * machine_frames (chain ws) + 8 * error_codes (chain ws)))))
-    ∷ (sums op_rules (chain ws) ++ ra_rules (chain ws)))
-unfolding x64_line x64_rules cfa_form
-cfa_run ws s h = rw (s.1, no_set 8 (chain ws) h, sum_counts (chain ws))
-
 -- With no frame register set, the CFA is $rsp plus 8, 8 for each push, what was allocated, 40 for each machine frame and 8 for each error code,
 -- over the whole chain.
 pub cfa_law : (ws : List ℕ) → set_count (chain ws) ≡ 0
     → x64_line ws ≡ init (word ws 0) (word ws 1 - word ws 0)
     (rule cfa (register_plus (ascii "$rsp") (pos (8 + (8 * pushes (chain ws) + allocations (chain ws) + 40 * machine_frames (chain ws) + 8 * error_codes (chain ws)))))
     ∷ (sums op_rules (chain ws) ++ ra_rules (chain ws)))
-unfolding sums sum
-cfa_law ws h = cfa_run ws (from op_rules [] (chain ws), from op_cfa [] (chain ws)) h
+unfolding x64_line x64_rules cfa_form
+cfa_law ws h = rw (sums_run op_cfa (chain ws), no_set 8 (chain ws) h, sum_counts (chain ws))

@@ -24,13 +24,13 @@ use Rattle.book.specs.Book.Laws.{bodies_at}
 use Rattle.x64.specs.declared.Op.{Op}
 use Rattle.x64.specs.X64.{chain, set_count, x64_skipped, x64_judged, x64_entry}
 use Rattle.x64.specs.Sense.{op_rules, pushes, allocations, machine_frames, error_codes, ra_rules, sums, x64_line, x64_lines}
-use Rattle.x64.specs.Sense.Laws.{x64_accepted, x64_entry_text, x64_entry_ok, cfa_law}
+use Rattle.x64.proofs.Sense.{x64_accepted, x64_entry_text, x64_entry_ok, cfa_law}
 use Rattle.arm64.specs.Arm64.{arm_skipped, arm_judged, arm_entry}
 use Rattle.arm64.specs.Sense.{arm_lines}
-use Rattle.arm64.specs.Sense.Laws.{arm_accepted, arm_entry_text, arm_entry_ok}
+use Rattle.arm64.proofs.Sense.{arm_accepted, arm_entry_text, arm_entry_ok}
 use Rattle.dwarf.specs.Dwarf.{dwarf_skipped, dwarf_judged, dwarf_entry}
 use Rattle.dwarf.specs.Sense.{dwarf_lines}
-use Rattle.dwarf.specs.Sense.Laws.{dwarf_accepted, dwarf_entry_text, dwarf_entry_ok}
+use Rattle.dwarf.proofs.Sense.{dwarf_accepted, dwarf_entry_text, dwarf_entry_ok}
 use Rattle.pdb.specs.Pdb.{pdb_skipped, pdb_judged, pdb_entry}
 use Rattle.pdb.specs.Sense.{last_unskipped, pdb_lines}
 use Rattle.pdb.specs.Sense.Laws.{pdb_accepted, pdb_entry_text, pdb_entry_next, pdb_entry_ok}
@@ -103,17 +103,10 @@ module _ (l : ℕ) (ds : List (List ℕ)) (b : List ℕ) where
   judged_by_lem false false true e = (pdb_accepted (last_unskipped ds) b e).judged_is
   judged_by_lem false false false e = (x64_accepted l no_last b e).judged_is
 
--- what the sense skips are the bodies that the walk does: each law that rests on this shows it itself, so that a wrong `skipped` is refused in the law
--- and not in a lemma below it
-abbrev Skips : ℕ → ℕ → Type 0
-Skips k l = (ds : List (List ℕ)) (b : List ℕ) → is_skipped l ds b (eqb k 2) (eqb k 3) (eqb k 4) ≡ skipped k l ds b
-
 module _ (k l : ℕ) (ds : List (List ℕ)) (b : List ℕ) (e : (entry k l ds b).number ≡ 0) where
-  entry_text : Skips k l → (entry k l ds b).text ≡ render (six_spaces k) (cond (skipped k l ds b) [] (lines_of k b))
-  unfolding entry_of lines_of six_spaces
-  entry_text s =
-      text_by l ds b (eqb k 2) (eqb k 3) (eqb k 4) e
-      ∙ ap (λ (t : Bool). render (six_spaces k) (cond t [] (some_lines l ds b (eqb k 2) (eqb k 3) (eqb k 4)))) (s ds b)
+  entry_text : (entry k l ds b).text ≡ render (six_spaces k) (cond (skipped k l ds b) [] (lines_of k b))
+  unfolding entry_of skipped lines_of six_spaces
+  entry_text = text_by l ds b (eqb k 2) (eqb k 3) (eqb k 4) e
 
   entry_next : (entry k l ds b).next ≡ left k (b ∷ ds)
   unfolding entry_of
@@ -123,9 +116,9 @@ module _ (k l : ℕ) (ds : List (List ℕ)) (b : List ℕ) (e : (entry k l ds b)
   unfolding entry_of lines_of
   entry_ok = either (all line_ok) (skipped k l ds b) [] (lines_of k b) tt (ok_by l ds b (eqb k 2) (eqb k 3) (eqb k 4) e)
 
-  entry_judged : Skips k l → judged_of k l ds b ≡ cond (skipped k l ds b) Skip Write
-  unfolding entry_of judged_of
-  entry_judged s = judged_by_lem l ds b (eqb k 2) (eqb k 3) (eqb k 4) e ∙ ap (λ (t : Bool). cond t Skip Write) (s ds b)
+  entry_judged : judged_of k l ds b ≡ cond (skipped k l ds b) Skip Write
+  unfolding entry_of skipped judged_of
+  entry_judged = judged_by_lem l ds b (eqb k 2) (eqb k 3) (eqb k 4) e
 
 -- ---- a walk that ends with 0 has refused no entry
 
@@ -162,19 +155,19 @@ module _ (k l room : ℕ) where
       more ds b bs w.0 (walk_all P none more (b ∷ ds) bs (suc done) (acc ++ (entry k l ds b).text) (sym (ap (λ (o : Walked). o.number) w.1) ∙ h))
 
   -- and the text is the sense, rendered
-  walked : Skips k l → (ds bs : List (List ℕ)) (done : ℕ) (acc : List ℕ) → (going ds bs done acc).number ≡ 0
+  walked : (ds bs : List (List ℕ)) (done : ℕ) (acc : List ℕ) → (going ds bs done acc).number ≡ 0
       → (going ds bs done acc).text ≡ acc ++ render (six_spaces k) (sense_from k l ds bs)
   unfolding walk sense_from render
-  walked s ds [] done acc h = sym (append-nil acc)
-  walked s ds (b ∷ bs) done acc h =
+  walked ds [] done acc h = sym (append-nil acc)
+  walked ds (b ∷ bs) done acc h =
       let e : Entry = entry k l ds b in
       let six : Bool = six_spaces k in
       let w = walk_on ds b bs done acc h in
       let g : (going (b ∷ ds) bs (suc done) (acc ++ e.text)).number ≡ 0 = sym (ap (λ (o : Walked). o.number) w.1) ∙ h in
       ap (λ (o : Walked). o.text) w.1
-      ∙ walked s (b ∷ ds) bs (suc done) (acc ++ e.text) g
+      ∙ walked (b ∷ ds) bs (suc done) (acc ++ e.text) g
       ∙ append_assoc acc e.text (render six (sense_from k l (b ∷ ds) bs))
-      ∙ rw (render_append six (cond (skipped k l ds b) [] (lines_of k b)) (sense_from k l (b ∷ ds) bs), entry_text k l ds b w.0 s) refl
+      ∙ rw (render_append six (cond (skipped k l ds b) [] (lines_of k b)) (sense_from k l (b ∷ ds) bs), entry_text k l ds b w.0) refl
 
 -- ---- the text of a translated book is its sense, rendered
 
@@ -221,17 +214,13 @@ module _ (b : List ℕ) (l : ℕ) (w t : List ℕ) (h : (outcome b l w t).number
   none_refused : (going (kind b) l (length t) [] (bodies b) 0 []).number ≡ 0
   none_refused = sym (ap (λ (o : Walked). o.number) starts) ∙ sym (ap (λ (o : Outcome). o.number) (translated b l w t h)) ∙ h
 
-  text_by_sense : Skips (kind b) l → text_of (outcome b l w t) ≡ render (six_spaces (kind b)) (sense b l)
+  pub text_is : text_of (outcome b l w t) ≡ render (six_spaces (kind b)) (sense b l)
   unfolding sense
-  text_by_sense s =
+  text_is =
       ap text_of (translated b l w t h)
       ∙ take-append_seam (walk_of b l (length t)).text _
       ∙ ap (λ (o : Walked). o.text) starts
-      ∙ walked (kind b) l (length t) s [] (bodies b) 0 [] none_refused
-
-  pub text_is : text_of (outcome b l w t) ≡ render (six_spaces (kind b)) (sense b l)
-  unfolding skipped
-  text_is = text_by_sense (λ ds x. refl)
+      ∙ walked (kind b) l (length t) [] (bodies b) 0 [] none_refused
 
   pub sense_ok : T (all line_ok (sense b l))
   unfolding sense sense_from
@@ -240,12 +229,11 @@ module _ (b : List ℕ) (l : ℕ) (w t : List ℕ) (h : (outcome b l w t).number
 
   -- a translated book's text, read, is its sense
   pub text_read : read (text_of (outcome b l w t)) ≡ sense b l
-  unfolding skipped
-  text_read = ap read (text_by_sense (λ ds x. refl)) ∙ read_render (six_spaces (kind b)) (sense b l) sense_ok
+  text_read = ap read text_is ∙ read_render (six_spaces (kind b)) (sense b l) sense_ok
 
-  judges : Skips (kind b) l → Judges (kind b) l [] (bodies b)
+  judges : Judges (kind b) l [] (bodies b)
   unfolding Judges
-  judges s = walk_all (kind b) l (length t) (λ ds bs. Judges (kind b) l ds bs) (λ ds. tt) (λ ds x xs e k. (entry_judged (kind b) l ds x e s, k)) [] (bodies b) 0 [] none_refused
+  judges = walk_all (kind b) l (length t) (λ ds bs. Judges (kind b) l ds bs) (λ ds. tt) (λ ds x xs e k. (entry_judged (kind b) l ds x e, k)) [] (bodies b) 0 [] none_refused
 
   -- every body that is not skipped is judged to be written: nothing but skipping keeps a body out of the sense, and out of the text
   pub only_skipped : (i : ℕ) → i < count b → skipped (kind b) l (reverse (take i (bodies b))) (body b i) ≡ false
@@ -253,42 +241,35 @@ module _ (b : List ℕ) (l : ℕ) (w t : List ℕ) (h : (outcome b l w t).number
       × (kind b ≡ 2 → arm_judged (body b i) ≡ Write)
       × (kind b ≡ 3 → dwarf_judged (body b i) ≡ Write)
       × (kind b ≡ 4 → pdb_judged (last_unskipped (reverse (take i (bodies b)))) (body b i) ≡ Write)
-  unfolding judged_of skipped
+  unfolding judged_of
   only_skipped i h s =
-      let j : Judges (kind b) l [] (take i (bodies b) ++ (body b i ∷ drop (suc i) (bodies b))) = rw (bodies_at b i h) at (judges (λ ds x. refl)) in
+      let j : Judges (kind b) l [] (take i (bodies b) ++ (body b i ∷ drop (suc i) (bodies b))) = rw (bodies_at b i h) at judges in
       let e : judged_of (kind b) l (reverse (take i (bodies b))) (body b i) ≡ Write
       = judged_at (kind b) l [] (take i (bodies b)) (body b i) (drop (suc i) (bodies b)) j ∙ rw s refl in
       (λ k. rw k at e, λ k. rw k at e, λ k. rw k at e, λ k. rw k at e)
 
 -- ---- demand 3
 
-same_by_sense : (b₁ : List ℕ) (l₁ : ℕ) (w₁ t₁ b₂ : List ℕ) (l₂ : ℕ) (w₂ t₂ : List ℕ) → Skips (kind b₁) l₁ → Skips (kind b₂) l₂ → kind b₁ ≡ kind b₂
-    → (outcome b₁ l₁ w₁ t₁).number ≡ 0 → (outcome b₂ l₂ w₂ t₂).number ≡ 0
-    → (text_of (outcome b₁ l₁ w₁ t₁) ≡ text_of (outcome b₂ l₂ w₂ t₂)) ↔ (sense b₁ l₁ ≡ sense b₂ l₂)
-same_by_sense b₁ l₁ w₁ t₁ b₂ l₂ w₂ t₂ s₁ s₂ k h₁ h₂ =
-    let e₁ : text_of (outcome b₁ l₁ w₁ t₁) ≡ render (six_spaces (kind b₂)) (sense b₁ l₁) =
-    text_by_sense b₁ l₁ w₁ t₁ h₁ s₁ ∙ ap (λ (n : ℕ). render (six_spaces n) (sense b₁ l₁)) k in
-    let e₂ : text_of (outcome b₂ l₂ w₂ t₂) ≡ render (six_spaces (kind b₂)) (sense b₂ l₂) = text_by_sense b₂ l₂ w₂ t₂ h₂ s₂ in (
-      λ e. render_injective (six_spaces (kind b₂)) (sense b₁ l₁) (sense b₂ l₂) (sense_ok b₁ l₁ w₁ t₁ h₁) (sense_ok b₂ l₂ w₂ t₂ h₂) (sym e₁ ∙ e ∙ e₂),
-      λ e. e₁ ∙ ap (render (six_spaces (kind b₂))) e ∙ sym e₂,
-    )
-
 -- any two books of one kind, limits, work areas and text buffers, and whatever stood in these
 pub same_text_same_sense : (b₁ : List ℕ) (l₁ : ℕ) (w₁ t₁ b₂ : List ℕ) (l₂ : ℕ) (w₂ t₂ : List ℕ) → kind b₁ ≡ kind b₂
     → (outcome b₁ l₁ w₁ t₁).number ≡ 0 → (outcome b₂ l₂ w₂ t₂).number ≡ 0
     → (text_of (outcome b₁ l₁ w₁ t₁) ≡ text_of (outcome b₂ l₂ w₂ t₂)) ↔ (sense b₁ l₁ ≡ sense b₂ l₂)
-unfolding skipped
-same_text_same_sense b₁ l₁ w₁ t₁ b₂ l₂ w₂ t₂ k h₁ h₂ = same_by_sense b₁ l₁ w₁ t₁ b₂ l₂ w₂ t₂ (λ ds x. refl) (λ ds x. refl) k h₁ h₂
+same_text_same_sense b₁ l₁ w₁ t₁ b₂ l₂ w₂ t₂ k h₁ h₂ =
+    let e₁ : text_of (outcome b₁ l₁ w₁ t₁) ≡ render (six_spaces (kind b₂)) (sense b₁ l₁) =
+    text_is b₁ l₁ w₁ t₁ h₁ ∙ ap (λ (n : ℕ). render (six_spaces n) (sense b₁ l₁)) k in
+    let e₂ : text_of (outcome b₂ l₂ w₂ t₂) ≡ render (six_spaces (kind b₂)) (sense b₂ l₂) = text_is b₂ l₂ w₂ t₂ h₂ in (
+      λ e. render_injective (six_spaces (kind b₂)) (sense b₁ l₁) (sense b₂ l₂) (sense_ok b₁ l₁ w₁ t₁ h₁) (sense_ok b₂ l₂ w₂ t₂ h₂) (sym e₁ ∙ e ∙ e₂),
+      λ e. e₁ ∙ ap (render (six_spaces (kind b₂))) e ∙ sym e₂,
+    )
 
 -- the same of what two calls of the code leave behind them
 pub calls_alike : (b₁ : List ℕ) (l₁ : ℕ) (w₁ t₁ b₂ : List ℕ) (l₂ : ℕ) (w₂ t₂ : List ℕ)
     {w₁' t₁' w₂' t₂' : List ℕ} {r₁ r₂ : Returned} → kind b₁ ≡ kind b₂
     → Called (outcome b₁ l₁ w₁ t₁) w₁' t₁' r₁ → Called (outcome b₂ l₂ w₂ t₂) w₂' t₂' r₂ → r₁.number ≡ 0 → r₂.number ≡ 0
     → (take r₁.length t₁' ≡ take r₂.length t₂') ↔ (sense b₁ l₁ ≡ sense b₂ l₂)
-unfolding skipped
 calls_alike b₁ l₁ w₁ t₁ b₂ l₂ w₂ t₂ k p₁ p₂ z₁ z₂ =
     rw (p₁.length_is, p₁.text_is, p₂.length_is, p₂.text_is)
-    (same_by_sense b₁ l₁ w₁ t₁ b₂ l₂ w₂ t₂ (λ ds x. refl) (λ ds x. refl) k (sym p₁.number_is ∙ z₁) (sym p₂.number_is ∙ z₂))
+    (same_text_same_sense b₁ l₁ w₁ t₁ b₂ l₂ w₂ t₂ k (sym p₁.number_is ∙ z₁) (sym p₂.number_is ∙ z₂))
 
 -- ---- the law of the CFA, in the sense of a book
 
