@@ -5,7 +5,7 @@ use std::path::Path;
 
 /// A family's name on the page, and its table's in the definitions.
 const FAMILIES: [(&str, &str); 6] =
-    [("intel32", "i386"), ("amd64", "x86-64"), ("arm32", "arm"), ("arm64", "arm64"), ("ppc32", "ppc"), ("mips32", "mips")];
+    [("intel32", "i386"), ("amd64", "x86_64"), ("arm32", "arm"), ("arm64", "arm64"), ("ppc32", "ppc"), ("mips32", "mips")];
 
 /// The names of a table in Tables.antt.
 fn table(source: &str, name: &str) -> Vec<String> {
@@ -42,8 +42,8 @@ fn registers(t: &mut Tally, page: &str) {
         let names = row.and_then(|row| listed(row[2]));
         t.check(names == Some(table(&source, name)), &format!("BOOK.md: the names of {family} are not those of the table {name}"));
     }
-    let x64 = table(&source, "pe-x64").join(" ");
-    t.check(page.lines().flat_map(quoted).any(|q| q == x64), "BOOK.md: the names of x64 registers are not those of the table pe-x64");
+    let x64 = table(&source, "pe_x64").join(" ");
+    t.check(page.lines().flat_map(quoted).any(|q| q == x64), "BOOK.md: the names of x64 registers are not those of the table pe_x64");
 }
 
 /// The clauses that a definition cites: 'document 01, NAME' and '01, NAME:'.

@@ -208,7 +208,7 @@ fn shared(t: &mut Tally, proofs: &str) {
         t.check(rows.contains(&path), &format!("PROOFS.md: what {} shares with the text has no row", path.display()));
         let folder = path.ancestors().nth(2).expect("a crate");
         for other in files(folder, ".antt").into_iter().chain(files(folder, ".rt")) {
-            let of_sense = ["specs/Sense", "specs/Worked"].iter().any(|s| other.starts_with(folder.join(s)) || other == folder.join(format!("{s}.antt")));
+            let of_sense = ["specs/Sense", "proofs/Sense", "specs/Worked"].iter().any(|s| other.starts_with(folder.join(s)) || other == folder.join(format!("{s}.antt")));
             let free = of_sense || !read(&other).contains("specs.Sense");
             t.check(free, &format!("{}: text and code use nothing of a sense", other.display()));
         }

@@ -7,7 +7,7 @@
 use crate::tally::Tally;
 use crate::{files, places, public, quoted, read, stem, tables};
 use std::collections::{BTreeMap, BTreeSet, VecDeque};
-use std::path::Path;
+use std::path::{Path, PathBuf};
 
 /// A file, as PROOFS.md writes it, and a name in it.
 type Place = (String, String);
@@ -203,10 +203,11 @@ struct Reach {
 }
 
 impl Reach {
-    /// Every file of definitions.
+    /// Every file of definitions, and the laws of the senses.
     fn new() -> Reach {
         let mut sources = BTreeMap::new();
-        for path in files(Path::new("crates"), ".antt").iter().filter(|p| p.components().nth(2).is_some_and(|c| c.as_os_str() == "specs")) {
+        let is_read = |p: &&PathBuf| p.components().nth(2).is_some_and(|c| c.as_os_str() == "specs") || p.ends_with("proofs/Sense.antt");
+        for path in files(Path::new("crates"), ".antt").iter().filter(is_read) {
             let file = path.strip_prefix("crates").expect("under crates").to_string_lossy().into_owned();
             let lines: Vec<String> = read(path).lines().map(bare).filter(|l| !l.is_empty()).collect();
             let mut source = Source::default();

@@ -6,7 +6,8 @@ use Rattle.lines.specs.Lines.{Line, render, Lines·open}
 use Rattle.entry.specs.declared.Last.{Last}
 use Rattle.entry.specs.Entry.{no_last}
 use Rattle.pdb.specs.Pdb.{pdb_skipped, pdb_entry, Pdb·open}
-use Rattle.pdb.specs.Sense.{with_program, no_front, before, no_back, win_tail, most_stack, fields_of, prolog_fields, code_fields, both_fields, placed, by_start, meets, stack_infos, win_line, pdb_lines}
+use Rattle.pdb.specs.Sense.{with_program, no_front, before, no_back, win_tail, most_stack, fields_of, prolog_fields, code_fields, both_fields}
+use Rattle.pdb.specs.Sense.{placed, by_start, meets, stack_infos, win_line, pdb_lines}
 
 -- a body, after what the entries before it left; its refusal's number or 0, its text, and the start that it leaves to the next
 pub record Case : Type 0 where

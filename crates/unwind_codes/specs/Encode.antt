@@ -7,7 +7,8 @@ use Rattle.std.proofs.Math.Seq.{drop-append_seam}
 use Rattle.text.specs.Tests.{is_true, and_l, and_r, all, eqw}
 use Rattle.entry.specs.Entry.{word}
 use Rattle.unwind_codes.specs.declared.Operation.{Operation}
-use Rattle.unwind_codes.specs.UnwindCodes.{op, any_reg, any_reg_offset, codes, bits_fit, find, code_of, meant, number, size_at, operation_at, whole, ends, list, op_words, arm_body, arm_number, decoded}
+use Rattle.unwind_codes.specs.UnwindCodes.{op, any_reg, any_reg_offset, codes, bits_fit, find, code_of, meant, number, size_at, operation_at, whole, ends, list}
+use Rattle.unwind_codes.specs.UnwindCodes.{op_words, arm_body, arm_number, decoded}
 use Rattle.unwind_codes.specs.Index.{alloc_s, save_r19r20_x, save_fplr, save_fplr_x, alloc_m, save_regp, save_regp_x, save_reg, save_reg_x, save_lrpair, save_fregp, save_fregp_x}
 use Rattle.unwind_codes.specs.Index.{save_freg, save_freg_x}
 use Rattle.unwind_codes.specs.Index.{one, two, three, four, alloc_l, any_reg_lem, list_first, list_none}

@@ -71,7 +71,8 @@ op_text_lem S (Alloc v) = refl
 op_text_lem S (SaveRsp r v) = append-nil _ ∙ saved_rule (pe_name r) (sub_ℕ S v)
 op_text_lem S (SaveFp r v f o) = append-nil _ ∙ framed_rule (pe_name r) (pe_name f) (sub_ℕ v o)
 op_text_lem S (SetFpRegister f o) = refl
-op_text_lem S (PushMachineFrame code) = rw (append-nil (rule_text (rule (ascii ".ra") (at_cfa_minus (pos (S + 40))))), saved_rule (ascii "$rsp") (pos (S + 16)), saved_rule (ascii ".ra") (pos (S + 40)))
+op_text_lem S (PushMachineFrame code) =
+    rw (append-nil (rule_text (rule (ascii ".ra") (at_cfa_minus (pos (S + 40))))), saved_rule (ascii "$rsp") (pos (S + 16)), saved_rule (ascii ".ra") (pos (S + 40)))
 op_text_lem S Other = refl
 op_text_lem S Undecodable = refl
 

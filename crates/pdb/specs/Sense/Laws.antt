@@ -160,7 +160,8 @@ unfolding pdb_text pdb_lines stack_infos
 pdb_text_lem ws = rw (← meets_contiguous ws) (go (meets ws))
   where
     go : (t : Bool) → cond t (both_text ws (range_at ws 15) (range_at ws 17)) (ranges_text ws true (sorted (prologs ws)) ++ ranges_text ws false (sorted (codes ws)))
-        ≡ render false (map (win_line ws) (cond t (both_fields ws (range_at ws 15) (range_at ws 17) ∷ []) (by_start (map (prolog_fields ws) (prologs ws)) ++ by_start (map (code_fields ws) (codes ws)))))
+        ≡ render false (map (win_line ws)
+        (cond t (both_fields ws (range_at ws 15) (range_at ws 17) ∷ []) (by_start (map (prolog_fields ws) (prologs ws)) ++ by_start (map (code_fields ws) (codes ws)))))
     go true = both_text_lem ws (range_at ws 15) (range_at ws 17)
     go false = lists_text ws (prologs ws) (codes ws)
 
