@@ -45,14 +45,14 @@ pub struct Fde {
 }
 
 // Registers met, with their count.
-#[derive(Drop)]
+#[derive(Clone, Copy)]
 pub struct Registers {
     pub number: [u32; 64],
     pub count: usize,
 }
 
 // The registers met, and whether there were more than 64.
-#[derive(Drop)]
+#[derive(Clone, Copy)]
 pub struct Met {
     pub registers: Registers,
     pub over: bool,
@@ -68,7 +68,7 @@ pub struct RuleCache {
 }
 
 // What goes from row to row: the CFA last seen, if any, and the rules last seen.
-#[derive(Drop)]
+#[derive(Clone, Copy)]
 pub struct RowState {
     pub cfa_seen: bool,
     pub cfa: CfaRule,
@@ -76,21 +76,21 @@ pub struct RowState {
 }
 
 // The form of a rule, if it has one.
-#[derive(Drop)]
+#[derive(Clone, Copy)]
 pub struct Formed {
     pub some: bool,
     pub form: Form,
 }
 
 // A rule as it is written, if it is.
-#[derive(Drop)]
+#[derive(Clone, Copy)]
 pub struct Formatted {
     pub some: bool,
     pub rule: Rule,
 }
 
 // A row's rules read once: what is seen after them, whether anything is written, and whether the return register's rule changed.
-#[derive(Drop)]
+#[derive(Clone, Copy)]
 pub struct RowScan {
     pub rules: RuleCache,
     pub written: bool,
@@ -98,7 +98,7 @@ pub struct RowScan {
 }
 
 // Where the text goes on, and what is last seen there.
-#[derive(Drop)]
+#[derive(Clone, Copy)]
 pub struct Placed {
     pub at: usize,
     pub state: RowState,

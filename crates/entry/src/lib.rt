@@ -10,7 +10,7 @@ ghost use Rattle.entry.specs.Entry.{no_last};
 use lines::Rva;
 
 // What becomes of an entry: refused by this number, skipped, or written.
-#[derive(Drop)]
+#[derive(Clone, Copy)]
 pub enum Judged {
     Refuse(u32),
     Skip,
@@ -28,7 +28,7 @@ pub struct Last {
 }
 
 // An entry put into a slice: its refusal's number or 0, the place after its text, and what it leaves to the next.
-#[derive(Drop)]
+#[derive(Clone, Copy)]
 pub struct Wrote {
     pub number: u32,
     pub at: usize,

@@ -4,7 +4,7 @@
 ghost use Rattle.std.specs.Prelude.{◌≡◌, length, set};
 ghost use Rattle.translate.specs.Outcome.{outcome};
 ghost use Rattle.unwind_info.specs.UnwindInfo.{decoded};
-ghost use Rattle.unwind_codes.specs.UnwindCodes.{decoded as decodedCodes};
+ghost use Rattle.unwind_codes.specs.UnwindCodes.{decoded as decoded_codes};
 ghost use Rattle.exports.specs.Exports.{Exported, FillExported};
 
 // A book into STACK lines: the number is returned; entries and length are stored where `counts` has room for two.
@@ -62,7 +62,7 @@ pub extern "C" fn stacklines_decode_arm64(
     body: &mut [u32],
     count: &mut [u64],
 ) -> u32
-    ensures { FillExported (decodedCodes bytes.now address size (length body.old)) body.old count.old body.new count.new result }
+    ensures { FillExported (decoded_codes bytes.now address size (length body.old)) body.old count.old body.new count.new result }
 {
     let decoded = unwind_codes::decode_arm64(bytes, address, size, body);
     store_count(count, decoded.filled);

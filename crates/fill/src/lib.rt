@@ -6,7 +6,7 @@ ghost use Rattle.std.specs.Prelude.{◌≡◌, [], ◌∷◌, ◌<◌, length, s
 ghost use Rattle.text.specs.Text.{Put};
 
 // What every call answers that fills lent room, but for translation: 0 or a refusal's number, and the words or places filled.
-#[derive(Drop)]
+#[derive(Clone, Copy)]
 pub struct Filled {
     pub number: u32,
     pub filled: usize,

@@ -242,54 +242,36 @@ fn show_rule(rt: &impl Print, name: Name, form: Form) -> io::Result<()> {
     show(rt, &line, n)
 }
 
-// A name, once more.
-fn same_name(name: &Name) -> Name {
-    Name {
-        bytes: name.bytes,
-        len: name.len,
-    }
-}
-
-// A register, once more.
-fn same_reg(reg: &Reg) -> Reg {
-    match reg {
-        Reg::Sp => Reg::Sp,
-        Reg::Pe(register) => Reg::Pe(*register),
-        Reg::Cfi(family, register) => Reg::Cfi(*family, *register),
-        Reg::Arm64(letter, register) => Reg::Arm64(*letter, *register),
-    }
-}
-
 // The six forms.
-fn show_forms(rt: &impl Print, name: &Name, reg: &Reg, x: i64) -> io::Result<()> {
-    show_rule(rt, same_name(name), Form::Register(same_reg(reg)))?;
-    show_rule(rt, same_name(name), Form::RegisterPlus(same_reg(reg), x))?;
-    show_rule(rt, same_name(name), Form::AtRegisterPlus(same_reg(reg), x))?;
-    show_rule(rt, same_name(name), Form::CfaPlus(x))?;
-    show_rule(rt, same_name(name), Form::AtCfaPlus(x))?;
-    show_rule(rt, same_name(name), Form::AtCfaMinus(x))
+fn show_forms(rt: &impl Print, name: Name, reg: Reg, x: i64) -> io::Result<()> {
+    show_rule(rt, name, Form::Register(reg))?;
+    show_rule(rt, name, Form::RegisterPlus(reg, x))?;
+    show_rule(rt, name, Form::AtRegisterPlus(reg, x))?;
+    show_rule(rt, name, Form::CfaPlus(x))?;
+    show_rule(rt, name, Form::AtCfaPlus(x))?;
+    show_rule(rt, name, Form::AtCfaMinus(x))
 }
 
 // ".sp", packed
 const SP: u64 = 0x70732e;
 
 fn show_rules(rt: &impl Print) -> io::Result<()> {
-    show_forms(rt, &rules::cfa_name(), &Reg::Pe(4), 48)?;
-    show_forms(rt, &rules::ra_name(), &Reg::Sp, -8)?;
-    show_forms(rt, &names::pe_register_name(3), &Reg::Pe(5), 0)?;
+    show_forms(rt, rules::cfa_name(), Reg::Pe(4), 48)?;
+    show_forms(rt, rules::ra_name(), Reg::Sp, -8)?;
+    show_forms(rt, names::pe_register_name(3), Reg::Pe(5), 0)?;
     show_forms(
         rt,
-        &names::cfi_register_name(2, 58),
-        &Reg::Cfi(7, 29),
+        names::cfi_register_name(2, 58),
+        Reg::Cfi(7, 29),
         9223372036854775807,
     )?;
     show_forms(
         rt,
-        &names::arm64_register_name(0, 29),
-        &Reg::Arm64(1, 8),
+        names::arm64_register_name(0, 29),
+        Reg::Arm64(1, 8),
         -9223372036854775808,
     )?;
-    show_forms(rt, &names::name_of(SP), &Reg::Arm64(2, 255), 2147483647)
+    show_forms(rt, names::name_of(SP), Reg::Arm64(2, 255), 2147483647)
 }
 
 // ---- beginnings of lines

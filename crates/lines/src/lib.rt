@@ -12,7 +12,7 @@ use text::{put_byte, put_bytes};
 pub struct Rva(pub u32);
 
 // The numbers of a STACK WIN line, in its order.
-#[derive(Drop)]
+#[derive(Clone, Copy)]
 pub struct StackInfo {
     pub ty: u32,
     pub start: Rva,

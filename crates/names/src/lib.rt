@@ -13,7 +13,7 @@ use tables::{cfi_mark, pe_mark};
 use text::{put_byte, put_front, put_mark};
 
 // A name in fixed bytes with its length; length 0: no name.
-#[derive(Drop)]
+#[derive(Clone, Copy)]
 pub struct Name {
     pub bytes: [u8; 8],
     pub len: usize,

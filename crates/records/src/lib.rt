@@ -10,7 +10,7 @@ ghost use Rattle.records.specs.Compare.{compared_of, Compares};
 use book::kind_of;
 use translate::Returned;
 
-#[derive(Drop)]
+#[derive(Clone, Copy)]
 pub enum Compared {
     Same,
     Different,

@@ -13,7 +13,7 @@ use names::{Name, put_name};
 use text::{put_byte, put_bytes};
 
 // A register that a rule speaks of.
-#[derive(Drop)]
+#[derive(Clone, Copy)]
 pub enum Reg {
     // the stack pointer in ARM64 records, `.sp`
     Sp,
@@ -26,7 +26,7 @@ pub enum Reg {
 }
 
 // How a value is found. `At` forms load what stands at the address.
-#[derive(Drop)]
+#[derive(Clone, Copy)]
 pub enum Form {
     Register(Reg),
     RegisterPlus(Reg, i64),
@@ -37,7 +37,7 @@ pub enum Form {
 }
 
 // A name, of what the rule gives, and how that is found.
-#[derive(Drop)]
+#[derive(Clone, Copy)]
 pub struct Rule {
     pub name: Name,
     pub form: Form,

@@ -21,7 +21,7 @@ const LONGEST: usize = 8192;
 const MOST_LIMIT: u32 = 32;
 
 // What a call returns: a refusal's number or 0, the entries done (skipped ones included), and the length of their text.
-#[derive(Drop)]
+#[derive(Clone, Copy)]
 pub struct Returned {
     pub number: u32,
     pub entries: usize,
@@ -29,7 +29,7 @@ pub struct Returned {
 }
 
 // After an entry: its number, where the text goes on, and what the entry leaves to the next.
-#[derive(Drop)]
+#[derive(Clone, Copy)]
 pub struct Next {
     pub number: u32,
     pub used: usize,

@@ -27,7 +27,7 @@ use part::check_parts;
 use write::{count_words, put_body};
 
 // An unwind code: the slots that it takes, 0 where it is not defined, and the operation that it becomes.
-#[derive(Drop)]
+#[derive(Clone, Copy)]
 pub struct UnwindCode {
     pub slots: usize,
     pub kind: u32,
@@ -44,7 +44,7 @@ pub struct Checked {
 }
 
 // Where the words go on, and how many operations there were.
-#[derive(Drop)]
+#[derive(Clone, Copy)]
 pub struct Placed {
     pub at: usize,
     pub count: usize,

@@ -59,7 +59,7 @@ pub struct Scan {
 }
 
 // Where the text goes on, and the total so far.
-#[derive(Drop)]
+#[derive(Clone, Copy)]
 pub struct Placed {
     pub at: usize,
     pub total: u64,

@@ -12,7 +12,7 @@ later a z (suc i) rules defaults h = refl
 
 pub returns-then-i-eq0 : goal.returns-then-i-eq0
 unfolding nth_line
-returns-then-i-eq0 c = rw c.if-i-eq0.true c.put_first_line.ensures
+returns-then-i-eq0 c = let e : c.args.i ≡ 0 = c.if-i-eq0.true in rw e c.put_first_line.ensures
 
 pub returns : goal.returns
 returns c =

@@ -48,14 +48,14 @@ loop-k-preserved c =
     let lk : length s.kind ≡ 64 = l.invariant.kinds in
     let lv : length s.value ≡ 64 = l.invariant.values in
     let some : 0 < l.k = omega arith in
-    let rule-is = c.rule_at-rule.ensures in
-    let room = rules_room l.invariant.left.rules some rule-is c.requires.2 in
+    let rule_is = c.rule_at-rule.ensures in
+    let room = rules_room l.invariant.left.rules some rule_is c.requires.2 in
     let counts = stored_counts s x.register x.kind x.value lr lk lv room c.place-q.ensures c.count_behind.ensures in
     let sees = stored_sees s x.register x.kind x.value lr lk lv room c.place-q.ensures c.count_behind.ensures in
     let writes : Bool → Bool = λ t. any (cond t (rule_bytes a.family a.ra x) []) in
     let changed = change_is s x.register x.kind x.value lr lk lv room c.place-q.ensures c.both-same.ensures c.both-changed.ensures in
     record {
-      left = scan_turn l.invariant.left some rule-is c.requires.2 counts sees
+      left = scan_turn l.invariant.left some rule_is c.requires.2 counts sees
           (c.either-written.ensures ∙ ap (λ (t : Bool). l.written || t) (◌∙◌ {b = writes (not c.both-changed.result)} c.rule_written.ensures (ap writes changed)))
           (c.either-moved.ensures ∙ ap (λ (t : Bool). l.moved || t) (c.both.ensures ∙ ap (λ (t : Bool). eqb x.register a.ra && t) changed));
       kinds = length-set s.kind _ _ ∙ lk;
