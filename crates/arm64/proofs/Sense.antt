@@ -1,5 +1,5 @@
 -- The text of an ARM64 entry as its operations are run is the text of its sense, and every line is well formed.
-use Rattle.std.specs.Prelude.{◌≡◌, refl, Bool, true, false, not, cond, ◌&&◌, List, [], ◌∷◌, ◌++◌, length, pos, ◌+ℤ◌, eqb}
+use Rattle.std.specs.Prelude.{◌≡◌, refl, Bool, true, false, not, cond, ◌&&◌, List, [], ◌∷◌, ◌++◌, length, pos, ◌+ℤ◌, Option, eqb}
 use Rattle.std.proofs.Common.{sym, ap, ◌∙◌, arith, lt-ltb, le-ltb, ne_eqb, append-nil, append_assoc}
 use Prim.Native.Nat.{ℕ, zero, suc, ◌+◌, ◌-◌, ◌<◌, ◌≤◌}
 use Rattle.std.proofs.Math.Decide.{dec_lt}
@@ -12,13 +12,16 @@ use Rattle.names.specs.Names.{letter_of, arm64_name}
 use Rattle.lines.specs.Lines.{Bytes, Rule, rule, register, cfa, form_text, rule_text, rules_text, init_text, later_text, line_text, render, name_ok, rule_ok, line_ok}
 use Rattle.lines.specs.Lines.Laws.{rules_append, render_unless}
 use Rattle.rules.specs.Rules.Laws.{arm64_ok}
+use Rattle.refusal.specs.declared.Refusal.TheVariants.{Reach}
 use Rattle.entry.specs.declared.Last.{Last}
 use Rattle.entry.specs.Entry.{word}
 use Rattle.entry.specs.Entry.Laws.{Accepted, accepted}
 use Rattle.arm64.specs.declared.Op.{Op}
 use Rattle.arm64.specs.declared.Op.TheVariants.{AllocStack, SaveReg, SaveRegPreindexed, SaveRegPair, SaveRegPairPreindexed, SaveLrPair, SaveNext, Other, End, Undecodable}
 use Rattle.arm64.specs.declared.Saved.{Saved}
-use Rattle.arm64.specs.Arm64.{ops, width, above, saved, pair_from, is_lr, in_reach, arm_layout, arm_skipped, arm_judged, growth_of, writes_cfa, Saves, nothing, alone, paired, saves}
+use Rattle.arm64.specs.declared.Saves.{Saves}
+use Rattle.arm64.specs.declared.Saves.TheVariants.{Nothing, Alone, Paired}
+use Rattle.arm64.specs.Arm64.{ops, width, above, saved, pair_from, is_lr, in_reach, arm_layout, arm_skipped, arm_judged, growth_of, writes_cfa, saves}
 use Rattle.arm64.specs.Arm64.{no_pair, last_after, writes_ra, saved_text, cfa_text, ra_text, given, saves_text, op_text, defaults_text, first_line, later_line, nth_line, run, arm_text, arm_entry}
 use Rattle.arm64.specs.Sense.{added_by, sum, Slot, slot, step, next, last_pair, slot_rule, cfa_rule, ra_rule}
 use Rattle.arm64.specs.Sense.{optional, is_x30, two_rules, pair_rules, op_rules, lacks, defaults, arm_line, lines_from, arm_lines}
@@ -83,9 +86,9 @@ kept ds T p Undecodable h = record { total_is = rw h.total_is; pair_is = h.pair_
 
 -- what an operation saves, as rules
 saves_rules : Saves → List Rule
-saves_rules nothing = []
-saves_rules (alone p) = slot_rule (slot_of p) ∷ []
-saves_rules (paired p q) = two_rules (slot_of p) (slot_of q)
+saves_rules Nothing = []
+saves_rules (Alone p) = slot_rule (slot_of p) ∷ []
+saves_rules (Paired p q) = two_rules (slot_of p) (slot_of q)
 
 pair_rules_lem : (p : Saved) → pair_rules (slot_of p) ≡ saves_rules (pair_from p)
 unfolding saves_rules
@@ -115,9 +118,9 @@ cfa_text_lem n = refl
 
 saves_text_lem : (s : Saves) → saves_text s ≡ rules_text (saves_rules s)
 unfolding saved_text ra_text saves_text slot_rule ra_rule two_rules saves_rules slot_of form_text rule_text rules_text
-saves_text_lem nothing = refl
-saves_text_lem (alone p) = sym (append-nil (saved_text p))
-saves_text_lem (paired p q) =
+saves_text_lem Nothing = refl
+saves_text_lem (Alone p) = sym (append-nil (saved_text p))
+saves_text_lem (Paired p q) =
     append_assoc (saved_text p) (saved_text q) (given (is_lr q) (ra_text q))
     ∙ ap (λ (l : Bytes). saved_text p ++ (saved_text q ++ l)) (optional_text (is_lr q) (ra_rule (slot_of q)) ∙ rw (x30_lr q) refl)
 
@@ -162,15 +165,15 @@ two_ra p q = rw (no_ra p.letter p.register, no_ra q.letter q.register) (go (is_x
 lacks_cfa : (t : Bool) (n : ℕ) (s : Saves) → lacks cfa (optional t (cfa_rule n) ++ saves_rules s) ≡ not t
 unfolding cfa_rule slot_rule saves_rules slot_of lacks
 lacks_cfa true n s = refl
-lacks_cfa false n nothing = refl
-lacks_cfa false n (alone p) = rw (no_cfa_lem p.letter p.register)
-lacks_cfa false n (paired p q) = two_cfa p q
+lacks_cfa false n Nothing = refl
+lacks_cfa false n (Alone p) = rw (no_cfa_lem p.letter p.register)
+lacks_cfa false n (Paired p q) = two_cfa p q
 
 saves_ra : (s : Saves) → lacks (ascii ".ra") (saves_rules s) ≡ not (writes_ra s)
 unfolding writes_ra slot_rule saves_rules slot_of lacks
-saves_ra nothing = refl
-saves_ra (alone p) = rw (no_ra p.letter p.register)
-saves_ra (paired p q) = two_ra p q
+saves_ra Nothing = refl
+saves_ra (Alone p) = rw (no_ra p.letter p.register)
+saves_ra (Paired p q) = two_ra p q
 
 lacks_ra : (t : Bool) (n : ℕ) (s : Saves) → lacks (ascii ".ra") (optional t (cfa_rule n) ++ saves_rules s) ≡ not (writes_ra s)
 unfolding cfa_rule lacks
@@ -214,11 +217,11 @@ arm_text_lem ws = run_text (word ws 0) (word ws 1) [] 0 no_pair (ops ws) (record
 
 -- ---- an entry that is not refused: its text is that of its lines, unless it is skipped
 
-pub arm_accepted : (last : Last) (ws : List ℕ) → (arm_entry last ws).number ≡ 0 → Accepted (arm_layout ws) (arm_skipped ws) (arm_judged ws) (arm_text ws) last last
+pub arm_accepted : (last : Option Last) (ws : List ℕ) → (arm_entry last ws).number ≡ 0 → Accepted (arm_layout ws) (arm_skipped ws) (arm_judged ws) (arm_text ws) last last
 unfolding arm_entry arm_judged
-arm_accepted last ws = accepted (arm_layout ws) (arm_skipped ws) (in_reach (word ws 0) 0 0 no_pair (ops ws)) 6 (arm_text ws) last last (λ e z. omega arith)
+arm_accepted last ws = accepted (arm_layout ws) (arm_skipped ws) (in_reach (word ws 0) 0 0 no_pair (ops ws)) Reach (arm_text ws) last last
 
-pub arm_entry_text : (last : Last) (ws : List ℕ) → (arm_entry last ws).number ≡ 0 → (arm_entry last ws).text ≡ render true (cond (arm_skipped ws) [] (arm_lines ws))
+pub arm_entry_text : (last : Option Last) (ws : List ℕ) → (arm_entry last ws).number ≡ 0 → (arm_entry last ws).text ≡ render true (cond (arm_skipped ws) [] (arm_lines ws))
 unfolding arm_entry
 arm_entry_text last ws e = (arm_accepted last ws e).text_is ∙ render_unless true (arm_skipped ws) (arm_text ws) (arm_lines ws) (arm_text_lem ws)
 

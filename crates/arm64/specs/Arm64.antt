@@ -1,18 +1,20 @@
 -- An ARM64 body (document 01, "ARM64 body"): its operations from the words, refusals 4 and 6, skipping, and its text as the operations are run.
 -- A body's words are ws; a word that is missing reads 0.
-use Rattle.std.specs.Prelude.{ℕ, zero, suc, ◌+◌, ◌*◌, ◌^◌, Bool, true, false, not, cond, ◌&&◌, ◌||◌, List, [], ◌∷◌, ◌++◌, reverse, length, pos, ltb, leb, eqb}
+use Rattle.std.specs.Prelude.{ℕ, zero, suc, ◌+◌, ◌*◌, ◌^◌, Bool, true, false, not, cond, ◌&&◌, ◌||◌, List, [], ◌∷◌, ◌++◌, reverse, length, pos, Option, Ok, Err, ltb, leb, eqb}
 use Rattle.std.proofs.Math.IntN.{sub_ℕ}
 use Rattle.text.specs.Text.{ascii}
 use Rattle.digits.specs.Digits.{hex, signed, Digits·open}
 use Rattle.names.specs.Names.{letter_of, arm64_name}
 use Rattle.lines.specs.Reach.{inside}
-use Rattle.entry.specs.declared.Judged.{Judged}
-use Rattle.entry.specs.declared.Judged.TheVariants.{Refuse, Skip, Write}
+use Rattle.refusal.specs.declared.Refusal.TheVariants.{Layout, Reach}
+use Rattle.entry.specs.declared.Fate.TheVariants.{Skip, Write}
 use Rattle.entry.specs.declared.Last.{Last}
-use Rattle.entry.specs.Entry.{Entry, comes_to, word}
+use Rattle.entry.specs.Entry.{Judged, Entry, comes_to, word}
 use Rattle.arm64.specs.declared.Op.{Op}
 use Rattle.arm64.specs.declared.Op.TheVariants.{AllocStack, SaveReg, SaveRegPreindexed, SaveRegPair, SaveRegPairPreindexed, SaveLrPair, SaveNext, Other, End, Undecodable}
 use Rattle.arm64.specs.declared.Saved.{Saved}
+use Rattle.arm64.specs.declared.Saves.{Saves}
+use Rattle.arm64.specs.declared.Saves.TheVariants.{Nothing, Alone, Paired}
 
 -- ---- operations from words
 
@@ -75,28 +77,22 @@ writes_cfa Other = true
 writes_cfa End = false
 writes_cfa Undecodable = false
 
--- what an operation saves: nothing, a register by itself, or a pair
-pub data Saves : Type 0 where
-  nothing : Saves
-  alone : Saved → Saves
-  paired : Saved → Saved → Saves
-
 -- a pair's second lies above its first
 abbrev pub pair_from : Saved → Saves
-pair_from q = paired q (above q)
+pair_from q = Paired q (above q)
 
 -- places are value - T, or -value - T where pre-indexed; kind 6 is x register and x30 as a pair; save-next continues from p
 unfoldable pub saves : ℕ → Saved → Op → Saves
-saves T p (AllocStack v) = nothing
-saves T p (SaveReg l r v) = alone (saved l r v T)
-saves T p (SaveRegPreindexed l r v) = alone (saved l r 0 (T + v))
+saves T p (AllocStack v) = Nothing
+saves T p (SaveReg l r v) = Alone (saved l r v T)
+saves T p (SaveRegPreindexed l r v) = Alone (saved l r 0 (T + v))
 saves T p (SaveRegPair l r v) = pair_from (saved l r v T)
 saves T p (SaveRegPairPreindexed l r v) = pair_from (saved l r 0 (T + v))
-saves T p (SaveLrPair r v) = paired (saved 0 r v T) (saved 0 30 (v + 8) T)
+saves T p (SaveLrPair r v) = Paired (saved 0 r v T) (saved 0 30 (v + 8) T)
 saves T p SaveNext = pair_from (above p)
-saves T p Other = nothing
-saves T p End = nothing
-saves T p Undecodable = nothing
+saves T p Other = Nothing
+saves T p End = Nothing
+saves T p Undecodable = Nothing
 
 -- save-next continues at first from x0 and place 0
 abbrev pub no_pair : Saved
@@ -121,9 +117,9 @@ is_lr p = eqb p.letter 0 && eqb p.register 30
 
 -- .ra is added for x30 as a pair's second
 unfoldable pub writes_ra : Saves → Bool
-writes_ra nothing = false
-writes_ra (alone p) = false
-writes_ra (paired p q) = is_lr q
+writes_ra Nothing = false
+writes_ra (Alone p) = false
+writes_ra (Paired p q) = is_lr q
 
 -- ---- the text, in bytes
 
@@ -149,9 +145,9 @@ given t bs = cond t bs []
 
 -- the registers in order, then .ra
 unfoldable pub saves_text : Saves → List ℕ
-saves_text nothing = []
-saves_text (alone p) = saved_text p
-saves_text (paired p q) = saved_text p ++ saved_text q ++ given (is_lr q) (ra_text q)
+saves_text Nothing = []
+saves_text (Alone p) = saved_text p
+saves_text (Paired p q) = saved_text p ++ saved_text q ++ given (is_lr q) (ra_text q)
 
 -- what an operation writes: the CFA first, with T after it
 unfoldable pub op_text : ℕ → Saved → Op → List ℕ
@@ -231,9 +227,9 @@ saved_fits p = inside (sub_ℕ p.a p.b) && leb p.register 255
 
 -- each that an operation saves
 unfoldable pub saves_fit : Saves → Bool
-saves_fit nothing = true
-saves_fit (alone p) = saved_fits p
-saves_fit (paired p q) = saved_fits p && saved_fits q
+saves_fit Nothing = true
+saves_fit (Alone p) = saved_fits p
+saves_fit (Paired p q) = saved_fits p && saved_fits q
 
 -- the value used, the total, the registers and their places, and the line's address
 unfoldable pub fits : ℕ → ℕ → Saved → Op → Bool
@@ -249,10 +245,10 @@ in_reach a i T p (o ∷ os) = fits (a + 4 * i) T p o && in_reach a (suc i) (T + 
 -- 4, skipping, then 6
 unfoldable pub arm_judged : List ℕ → Judged
 arm_judged ws =
-    cond (arm_layout ws) (cond (arm_skipped ws) Skip (cond (in_reach (word ws 0) 0 0 no_pair (ops ws)) Write (Refuse 6))) (Refuse 4)
+    cond (arm_layout ws) (cond (arm_skipped ws) (Ok Skip) (cond (in_reach (word ws 0) 0 0 no_pair (ops ws)) (Ok Write) (Err Reach))) (Err Layout)
 
 -- ARM64 passes on what was left to it
-unfoldable pub arm_entry : Last → List ℕ → Entry
+unfoldable pub arm_entry : Option Last → List ℕ → Entry
 arm_entry last ws = comes_to (arm_judged ws) (arm_text ws) last last
 
 -- what to unfold where ARM64 entries are to compute

@@ -4,7 +4,7 @@
 //     1                size
 //     2                operation count, at most 1,024
 //     3                operations, as they are stored
-//     of an operation  kind, letter (1), register (2), value (3)
+//     of an operation  kind, letter, register, value
 //
 // and which words an operation uses, by its kind:
 //
@@ -20,32 +20,19 @@
 //     10 undecodable             -
 //
 // The operations before the first end count.
-ghost use Rattle.std.specs.Prelude.{◌≡◌, ◌^◌, ◌<◌, ◌≤◌, get_or};
-ghost use Rattle.arm64.specs.Arm64.{op_of, value_of};
-ghost use Rattle.arm64.specs.Index.{op_at, counted};
+ghost use Rattle.std.specs.Prelude.{◌≡◌, ◌+◌, ◌*◌, ◌≤◌, length, position};
+ghost use Rattle.std.specs.List.{before_first};
+ghost use Rattle.arm64.specs.Arm64.{value_of};
+ghost use Rattle.arm64.specs.Index.{op_at, is_kind};
 
 use crate::Op;
-use entry::word;
 
-// Where the words of a body stand.
-pub(crate) const ADDRESS_AT: usize = 0;
-
-pub(crate) const SIZE_AT: usize = 1;
-
-pub(crate) const OPS_AT: usize = 2;
-
-pub(crate) const FIRST_OP: usize = 3;
-
-// Those of an operation, behind its kind.
-pub(crate) const LETTER_AT: usize = 1;
-
-pub(crate) const REGISTER_AT: usize = 2;
-
-pub(crate) const VALUE_AT: usize = 3;
+// The words in front of the operations, and those of one.
+pub(crate) const HEADER_WORDS: usize = 3;
 
 pub(crate) const OP_WORDS: usize = 4;
 
-// The kinds of operations.
+// The kinds of operations, as the C interface numbers them: a body's word can hold any other, and an operation read from its words is an `Op`.
 pub(crate) const ALLOC_STACK: u32 = 1;
 
 pub(crate) const SAVE_REG: u32 = 2;
@@ -65,70 +52,78 @@ pub(crate) const END: u32 = 9;
 pub(crate) const UNDECODABLE: u32 = 10;
 
 // The bytes of an instruction.
-pub(crate) const INSTRUCTION: u64 = 4;
+const INSTRUCTION: u64 = 4;
 
-#[tactic(auto, unfolding(crate::specs::Arm64::op_of))]
-fn op_of(kind: u32, letter: u32, register: u32, value: u32) -> Op
-    ensures { result ≡ op_of kind letter register value }
-{
-    match kind {
-        ALLOC_STACK => Op::AllocStack(value),
-        SAVE_REG => Op::SaveReg(letter, register, value),
-        SAVE_REG_PREINDEXED => Op::SaveRegPreindexed(letter, register, value),
-        SAVE_REG_PAIR => Op::SaveRegPair(letter, register, value),
-        SAVE_REG_PAIR_PREINDEXED => Op::SaveRegPairPreindexed(letter, register, value),
-        SAVE_LR_PAIR => Op::SaveLrPair(register, value),
-        SAVE_NEXT => Op::SaveNext,
-        END => Op::End,
-        UNDECODABLE => Op::Undecodable,
-        _ => Op::Other,
+// A body that keeps the layout: where the function starts, its size, and the words of the operations that count, as they are stored.
+#[derive(Clone, Copy)]
+pub(crate) struct Body<'a> {
+    pub(crate) address: u32,
+    pub(crate) size: u32,
+    pub(crate) ops: &'a [[u32; OP_WORDS]],
+    ghost few: { length ops.now ≤ 1024 },
+}
+
+impl Body<'_> {
+    // Where line i is.
+    pub(crate) fn line(&self, i: usize) -> u64
+        requires { i ≤ 1024 }
+        ensures { result ≡ self.now.address + 4 * i }
+    {
+        self.address as u64 + INSTRUCTION * i as u64
     }
 }
 
-// The operation whose words start at i.
-#[tactic(auto, unfolding(crate::specs::Index::op_at))]
-pub(crate) fn op_at(body: &[u32], i: usize) -> Op
-    requires { i < 2 ^ 32 }
-    ensures { result ≡ op_at body.now i }
-{
-    let kind = word(body, i);
-    let letter = word(body, i + LETTER_AT);
-    let register = word(body, i + REGISTER_AT);
-    let value = word(body, i + VALUE_AT);
-    op_of(kind, letter, register, value)
-}
+impl From<[u32; OP_WORDS]> for Op {
+    ghost from_gives = { λ w o. o ≡ op_at w };
 
-// The value that an operation uses.
-#[tactic(auto, unfolding(crate::specs::Arm64::value_of))]
-pub(crate) fn value_of(op: Op) -> u32
-    ensures { result ≡ value_of op }
-{
-    match op {
-        Op::AllocStack(v) => v,
-        Op::SaveReg(_, _, v) => v,
-        Op::SaveRegPreindexed(_, _, v) => v,
-        Op::SaveRegPair(_, _, v) => v,
-        Op::SaveRegPairPreindexed(_, _, v) => v,
-        Op::SaveLrPair(_, v) => v,
-        Op::SaveNext => 0,
-        Op::Other => 0,
-        Op::End => 0,
-        Op::Undecodable => 0,
-    }
-}
-
-// How many stand before the first end.
-pub(crate) fn first_end(body: &[u32]) -> usize
-    requires { get_or body.now 2 0 ≤ 1024 }
-    ensures { result ≡ counted body.now }
-{
-    let n = word(body, OPS_AT) as usize;
-    let mut i: usize = 0;
-    while i < n {
-        if word(body, FIRST_OP + OP_WORDS * i) == END {
-            return i;
+    #[tactic(auto, unfolding(crate::specs::Index::op_at, crate::specs::Arm64::op_of))]
+    fn from([kind, letter, register, value]: [u32; OP_WORDS]) -> Op {
+        match kind {
+            ALLOC_STACK => Op::AllocStack(value),
+            SAVE_REG => Op::SaveReg(letter, register, value),
+            SAVE_REG_PREINDEXED => Op::SaveRegPreindexed(letter, register, value),
+            SAVE_REG_PAIR => Op::SaveRegPair(letter, register, value),
+            SAVE_REG_PAIR_PREINDEXED => Op::SaveRegPairPreindexed(letter, register, value),
+            SAVE_LR_PAIR => Op::SaveLrPair(register, value),
+            SAVE_NEXT => Op::SaveNext,
+            END => Op::End,
+            UNDECODABLE => Op::Undecodable,
+            _ => Op::Other,
         }
-        i += 1;
     }
-    n
+}
+
+impl Op {
+    // The value that it uses.
+    #[tactic(auto, unfolding(crate::specs::Arm64::value_of))]
+    pub(crate) fn value(self) -> u32
+        ensures { result ≡ value_of self }
+    {
+        match self {
+            Op::AllocStack(v) => v,
+            Op::SaveReg(_, _, v) => v,
+            Op::SaveRegPreindexed(_, _, v) => v,
+            Op::SaveRegPair(_, _, v) => v,
+            Op::SaveRegPairPreindexed(_, _, v) => v,
+            Op::SaveLrPair(_, v) => v,
+            Op::SaveNext | Op::Other | Op::End | Op::Undecodable => 0,
+        }
+    }
+}
+
+// Which is the first end.
+fn first_end(ops: &[[u32; OP_WORDS]]) -> Option<usize>
+    ensures { result ≡ position (is_kind 9) ops.now }
+{
+    ops.iter().position(|&[kind, ..]| kind == END)
+}
+
+// The operations that count.
+pub(crate) fn counted(ops: &[[u32; OP_WORDS]]) -> &[[u32; OP_WORDS]]
+    ensures { result.now ≡ before_first (is_kind 9) ops.now }
+{
+    match first_end(ops) {
+        Some(n) => &ops[..n],
+        None => ops,
+    }
 }

@@ -1,20 +1,24 @@
 // What becomes of an ARM64 entry: refused by 4, skipped, refused by 6, or written.
 // The encoder runs the operations: for refusal 6 here, and again for the lines.
-ghost use Rattle.std.specs.Prelude.{◌≡◌, ◌+◌, ◌^◌, ◌<◌, ◌≤◌, get_or};
+ghost use Rattle.std.specs.Prelude.{◌≡◌, ◌+◌, ◌^◌, ◌<◌, ◌≤◌, true, false, MatchOption, MatchResult};
+ghost use Rattle.entry.specs.declared.Fate.TheVariants.{Skip};
+ghost use Rattle.std.specs.List.{list_all, list_any};
 ghost use Rattle.std.proofs.Math.IntN.{sub_ℕ};
 ghost use Rattle.lines.specs.Reach.{inside};
-ghost use Rattle.arm64.specs.Arm64.{width, above, no_pair, in_reach, op_fits, arm_layout, undecodable, arm_judged};
-ghost use Rattle.arm64.specs.Encoder.{start_encoder, began, grown, single, double, remembered, pair, stepped, flag_fits, line_fits, Small};
-ghost use Rattle.arm64.specs.Index.{ops_run};
+ghost use Rattle.arm64.specs.declared.Saves.TheVariants.{Nothing, Alone, Paired};
+ghost use Rattle.arm64.specs.Arm64.{width, above, saved, pair_from, is_lr, writes_ra, no_pair, saved_fits, saves_fit, fits, in_reach, op_fits, arm_layout, arm_judged};
+ghost use Rattle.arm64.specs.Encoder.{start_encoder, stepped, Steps, line_fits, Near, EachNear, EachNear-prop};
+ghost use Rattle.arm64.specs.Index.{is_kind, words_fit, ops_run, Holds, Admitted};
 
 use crate::body::{
-    ADDRESS_AT, ALLOC_STACK, END, FIRST_OP, INSTRUCTION, OP_WORDS, OPS_AT, REGISTER_AT,
-    SAVE_LR_PAIR, SAVE_REG, UNDECODABLE, first_end, op_at, value_of,
+    ALLOC_STACK, Body, HEADER_WORDS, OP_WORDS, SAVE_LR_PAIR, SAVE_REG, UNDECODABLE, counted,
 };
-use crate::{BreakpadEncoder, Op, Saved};
-use entry::{Judged, both, refusal, word};
+use crate::{BreakpadEncoder, Op, Saved, Saves};
+use refusal::Refusal;
 
-// x30, the link register.
+// The letter x, and x30, the link register.
+const X: u32 = 0;
+
 const LR: u64 = 30;
 
 // The largest that a body may have (docs/BOOK.md).
@@ -25,7 +29,7 @@ const MOST_REGISTER: u32 = 255;
 // A pair's second register too.
 const MOST_PAIRED: u64 = 255;
 
-// The letter q, and the bytes of a register: of x and d, and of q.
+// The letter q, and the bytes of a register: of x and d, and of q. A letter stays the body's word: any above 1 is q, and names are made from it.
 const Q: u32 = 2;
 
 const WIDTH: u64 = 8;
@@ -50,6 +54,13 @@ fn width_of(letter: u32) -> u64
 }
 
 impl Saved {
+    // x30, the link register.
+    pub(crate) fn is_lr(self) -> bool
+        ensures { result ≡ is_lr self }
+    {
+        (self.letter == X) & (self.register == LR)
+    }
+
     // The next register, right above.
     #[tactic(auto, unfolding(crate::specs::Arm64::above))]
     fn above(self) -> Saved
@@ -66,183 +77,128 @@ impl Saved {
     }
 }
 
+impl Saves {
+    // Is the return address among them: x30 as a pair's second.
+    #[tactic(auto, unfolding(crate::specs::Arm64::writes_ra))]
+    pub(crate) fn writes_ra(self) -> bool
+        ensures { result ≡ writes_ra self }
+    {
+        match self {
+            Saves::Paired(_, q) => q.is_lr(),
+            Saves::Nothing | Saves::Alone(_) => false,
+        }
+    }
+}
+
 impl BreakpadEncoder {
-    #[tactic(auto, unfolding(crate::specs::Encoder::start_encoder, crate::specs::Encoder::encoder, crate::specs::Encoder::is_one, crate::specs::Encoder::is_two, crate::specs::Encoder::first_of, crate::specs::Encoder::second_of, crate::specs::Arm64::writes_ra))]
-    pub(crate) fn new() -> BreakpadEncoder
+    #[tactic(auto, unfolding(crate::specs::Encoder::start_encoder, crate::specs::Encoder::encoder))]
+    fn new() -> BreakpadEncoder
         ensures { result ≡ start_encoder }
     {
-        let nothing = NOTHING;
         BreakpadEncoder {
             stack_size: 0,
-            last: nothing,
+            last: NOTHING,
             cfa_touched: false,
-            one: false,
-            first: nothing,
-            two: false,
-            second: nothing,
-            ra_written: false,
+            saves: Saves::Nothing,
         }
     }
 
-    #[tactic(auto, unfolding(crate::specs::Encoder::began, crate::specs::Encoder::encoder, crate::specs::Encoder::is_one, crate::specs::Encoder::is_two, crate::specs::Encoder::first_of, crate::specs::Encoder::second_of, crate::specs::Arm64::writes_ra))]
     fn begin_instruction(mut self) -> BreakpadEncoder
-        ensures { result ≡ began self }
+        ensures { result ≡ record self { cfa_touched = false; saves = Nothing } }
     {
-        let nothing = NOTHING;
         self.cfa_touched = false;
-        self.one = false;
-        self.first = nothing;
-        self.two = false;
-        self.second = nothing;
-        self.ra_written = false;
+        self.saves = Saves::Nothing;
         self
     }
 
-    #[tactic(auto, unfolding(crate::specs::Encoder::grown))]
     fn alloc_stack(mut self, size: u32) -> BreakpadEncoder
         requires { self.stack_size < 2 ^ 31 }
-        ensures { result ≡ grown self size }
+        ensures { result ≡ record self { stack_size = self.stack_size + size; cfa_touched = true } }
     {
-        self.stack_size = self.stack_size + size as u64;
+        self.stack_size += size as u64;
         self.cfa_touched = true;
         self
     }
 
+    // A register at [sp, #value].
+    fn get_indexed(self, letter: u32, register: u32, value: u32) -> Saved
+        ensures { result ≡ saved letter register value self.stack_size }
+    {
+        Saved {
+            letter,
+            register: register as u64,
+            a: value as u64,
+            b: self.stack_size,
+        }
+    }
+
+    // A register at [sp, #-value]!: the stack grows first, so it lies below where the stack pointer was.
+    fn get_pre_indexed(self, letter: u32, register: u32, value: u32) -> Saved
+        requires { self.stack_size < 2 ^ 31 }
+        ensures { result ≡ saved letter register 0 (self.stack_size + value) }
+    {
+        Saved {
+            letter,
+            register: register as u64,
+            a: 0,
+            b: self.stack_size + value as u64,
+        }
+    }
+
     // One register; save-next still goes on from the last pair.
-    #[tactic(auto, unfolding(crate::specs::Encoder::single))]
     fn save_one(mut self, saved: Saved) -> BreakpadEncoder
-        ensures { result ≡ single self saved }
+        ensures { result ≡ record self { saves = Alone saved } }
     {
-        self.one = true;
-        self.first = saved;
-        self.two = false;
+        self.saves = Saves::Alone(saved);
         self
     }
 
-    // `.ra` is written for x30 as a pair's second.
-    #[tactic(auto, unfolding(crate::specs::Encoder::double))]
-    fn save_two(mut self, first: Saved, second: Saved) -> BreakpadEncoder
-        ensures { result ≡ double self first second }
-    {
-        self.one = true;
-        self.first = first;
-        self.two = true;
-        self.second = second;
-        self.ra_written = both(second.letter == 0, second.register == LR);
-        self
-    }
-
-    // A pair goes on where it says, and save-next goes on from it.
-    #[tactic(auto, unfolding(crate::specs::Encoder::double, crate::specs::Encoder::remembered))]
+    // A register and the one behind it, from which save-next goes on.
     fn save_pair(mut self, first: Saved) -> BreakpadEncoder
         requires { (first.register < 2 ^ 33) × (first.a < 2 ^ 34) }
-        ensures { result ≡ remembered (double self first (above first)) }
+        ensures { result ≡ record self { saves = pair_from first; last = above first } }
     {
-        let second = first.above();
-        self = self.save_two(first, second);
-        self.last = second;
+        self.last = first.above();
+        self.saves = Saves::Paired(first, self.last);
         self
-    }
-
-    fn save_indexed(mut self, letter: u32, register: u32, value: u32) -> BreakpadEncoder
-        ensures { result ≡ single self (record { letter = letter; register = register; a = value; b = self.stack_size }) }
-    {
-        self = self.save_one(Saved {
-            letter,
-            register: register as u64,
-            a: value as u64,
-            b: self.stack_size,
-        });
-        self
-    }
-
-    // The stack grows first: the place lies below where the stack pointer was.
-    #[tactic(auto, unfolding(crate::specs::Encoder::single))]
-    fn save_pre_indexed(mut self, letter: u32, register: u32, value: u32) -> BreakpadEncoder
-        requires { self.stack_size < 2 ^ 31 }
-        ensures { result ≡ grown (single self (record { letter = letter; register = register; a = 0; b = self.stack_size + value })) value }
-    {
-        self = self.save_one(Saved {
-            letter,
-            register: register as u64,
-            a: 0,
-            b: self.stack_size + value as u64,
-        });
-        self.alloc_stack(value)
-    }
-
-    fn save_indexed_pair(mut self, letter: u32, register: u32, value: u32) -> BreakpadEncoder
-        ensures { result ≡ pair self (record { letter = letter; register = register; a = value; b = self.stack_size }) }
-    {
-        self = self.save_pair(Saved {
-            letter,
-            register: register as u64,
-            a: value as u64,
-            b: self.stack_size,
-        });
-        self
-    }
-
-    #[tactic(auto, unfolding(crate::specs::Encoder::double, crate::specs::Encoder::remembered))]
-    fn save_pre_indexed_pair(mut self, letter: u32, register: u32, value: u32) -> BreakpadEncoder
-        requires { self.stack_size < 2 ^ 31 }
-        ensures { result ≡ grown (pair self (record { letter = letter; register = register; a = 0; b = self.stack_size + value })) value }
-    {
-        self = self.save_pair(Saved {
-            letter,
-            register: register as u64,
-            a: 0,
-            b: self.stack_size + value as u64,
-        });
-        self.alloc_stack(value)
     }
 
     // An x register and lr; save-next does not go on from these.
     fn save_indexed_reg_and_lr(mut self, register: u32, value: u32) -> BreakpadEncoder
-        ensures { result ≡ double self (record { letter = 0; register = register; a = value; b = self.stack_size }) (record { letter = 0; register = 30; a = value + 8; b = self.stack_size }) }
+        ensures { result ≡ record self { saves = Paired (saved 0 register value self.stack_size) (saved 0 30 (value + 8) self.stack_size) } }
     {
-        let first = Saved {
-            letter: 0,
-            register: register as u64,
-            a: value as u64,
-            b: self.stack_size,
-        };
+        let first = self.get_indexed(X, register, value);
         let second = Saved {
-            letter: 0,
             register: LR,
-            a: value as u64 + WIDTH,
-            b: self.stack_size,
+            a: first.a + WIDTH,
+            ..first
         };
-        self = self.save_two(first, second);
-        self
-    }
-
-    fn save_next_pair(mut self) -> BreakpadEncoder
-        requires { (self.last.register < 2 ^ 32) × (self.last.a < 2 ^ 33) }
-        ensures { result ≡ pair self (above self.last) }
-    {
-        let last = self.last;
-        self = self.save_pair(last.above());
+        self.saves = Saves::Paired(first, second);
         self
     }
 
     // One operation: the state after it, with what it writes.
-    pub(crate) fn step(mut self, op: Op) -> BreakpadEncoder
-        requires { Small self }
+    #[tactic(auto, unfolding(crate::specs::Encoder::encoder, crate::specs::Encoder::stepped, crate::specs::Arm64::growth_of, crate::specs::Arm64::writes_cfa, crate::specs::Arm64::saves, crate::specs::Arm64::last_after))]
+    fn step(mut self, op: Op) -> BreakpadEncoder
+        requires total { self.stack_size < 2 ^ 31 }
+        requires last { Near self.last }
         ensures { result ≡ stepped self op }
     {
         self = self.begin_instruction();
         match op {
             Op::AllocStack(v) => self.alloc_stack(v),
-            Op::SaveReg(l, r, v) => self.save_indexed(l, r, v),
-            Op::SaveRegPreindexed(l, r, v) => self.save_pre_indexed(l, r, v),
-            Op::SaveRegPair(l, r, v) => self.save_indexed_pair(l, r, v),
-            Op::SaveRegPairPreindexed(l, r, v) => self.save_pre_indexed_pair(l, r, v),
+            Op::SaveReg(l, r, v) => self.save_one(self.get_indexed(l, r, v)),
+            Op::SaveRegPreindexed(l, r, v) => {
+                self.save_one(self.get_pre_indexed(l, r, v)).alloc_stack(v)
+            }
+            Op::SaveRegPair(l, r, v) => self.save_pair(self.get_indexed(l, r, v)),
+            Op::SaveRegPairPreindexed(l, r, v) => {
+                self.save_pair(self.get_pre_indexed(l, r, v)).alloc_stack(v)
+            }
             Op::SaveLrPair(r, v) => self.save_indexed_reg_and_lr(r, v),
-            Op::SaveNext => self.save_next_pair(),
+            Op::SaveNext => self.save_pair(self.last.above()),
             Op::Other => self.alloc_stack(0),
-            Op::End => self,
-            Op::Undecodable => self,
+            Op::End | Op::Undecodable => self,
         }
     }
 }
@@ -256,139 +212,148 @@ const REACH_END: u64 = 0x8000_0000;
 const ADDRESSES: u64 = 0x1_0000_0000;
 
 // a - b lies inside signed 32 bits.
+#[tactic(auto, using(crate::specs::Index::inside_is))]
 fn is_inside(a: u64, b: u64) -> bool
     ensures { result ≡ inside (sub_ℕ a b) }
 {
-    if a < b {
-        return b - a <= REACH_END;
-    }
-    a - b < REACH_END
+    (a.saturating_sub(b) < REACH_END) & (b.saturating_sub(a) <= REACH_END)
 }
 
-#[tactic(auto, unfolding(crate::specs::Arm64::saved_fits, crate::specs::Encoder::flag_fits))]
-fn saved_fits(saved: bool, p: Saved) -> bool
-    ensures { result ≡ flag_fits saved p }
+#[tactic(auto, unfolding(crate::specs::Arm64::saved_fits))]
+fn saved_fits(p: Saved) -> bool
+    ensures { result ≡ saved_fits p }
 {
-    if saved {
-        return both(is_inside(p.a, p.b), p.register <= MOST_PAIRED);
+    is_inside(p.a, p.b) & (p.register <= MOST_PAIRED)
+}
+
+#[tactic(auto, unfolding(crate::specs::Arm64::saves_fit))]
+fn saves_fit(saves: Saves) -> bool
+    ensures { result ≡ saves_fit saves }
+{
+    match saves {
+        Saves::Nothing => true,
+        Saves::Alone(p) => saved_fits(p),
+        Saves::Paired(p, q) => saved_fits(p) & saved_fits(q),
     }
-    true
 }
 
 // What an operation that uses `value` has left in the encoder, on a line at `address`.
+#[tactic(auto, unfolding(crate::specs::Encoder::line_fits, lines::specs::Reach::inside))]
 fn fits_line(address: u64, value: u32, e: BreakpadEncoder) -> bool
     ensures { result ≡ line_fits address value e }
 {
-    if REACH_END <= value as u64 {
-        return false;
-    }
-    if REACH_END <= e.stack_size {
-        return false;
-    }
-    if !saved_fits(e.one, e.first) {
-        return false;
-    }
-    if !saved_fits(e.two, e.second) {
-        return false;
-    }
-    address < ADDRESSES
+    ((value as u64) < REACH_END)
+        & (e.stack_size < REACH_END)
+        & saves_fit(e.saves)
+        & (address < ADDRESSES)
 }
 
-// Refusal 6 does not apply: every number of the first n operations, run backwards, is in reach.
-fn reach(body: &[u32], n: usize) -> bool
-    requires { n ≤ 1024 }
-    ensures { result ≡ in_reach (get_or body.now 0 0) 0 0 no_pair (ops_run body.now 3 n) }
-{
-    let address = word(body, ADDRESS_AT) as u64;
-    let mut e = BreakpadEncoder::new();
-    let mut i: u64 = 0;
-    let mut k = n;
-    while 0 < k {
-        k -= 1;
-        let op = op_at(body, FIRST_OP + OP_WORDS * k);
-        e = e.step(op);
-        if !fits_line(address + INSTRUCTION * i, value_of(op), e) {
-            return false;
+// A state whose numbers are in reach.
+#[derive(Clone, Copy)]
+pub(crate) struct InReach {
+    pub(crate) state: BreakpadEncoder,
+    ghost total: { state.stack_size < 2 ^ 31 },
+    ghost last: { Near state.last },
+    ghost saved: { EachNear state.saves } by { EachNear-prop state.saves },
+}
+
+impl InReach {
+    pub(crate) fn new() -> InReach
+        ensures { result.state ≡ start_encoder }
+    {
+        InReach {
+            state: BreakpadEncoder::new(),
         }
-        i += 1;
+    }
+
+    // One operation, whose line is at `address`; none where a number of it is out of reach.
+    // Inlined: as a call it takes 121.6 instructions a word of real books, and 99.2 so.
+    #[inline(always)]
+    pub(crate) fn step(self, op: Op, address: u64) -> Option<InReach>
+        ensures { MatchOption result (fits address self.state.stack_size self.state.last op ≡ false) (λ e. Steps address self.state op e.state) }
+    {
+        let state = self.state.step(op);
+        if !fits_line(address, op.value(), state) {
+            return None;
+        }
+        Some(InReach { state })
+    }
+}
+
+// Refusal 6 does not apply: every number of the operations, run backwards, is in reach.
+fn reach(body: &Body) -> bool
+    ensures { result ≡ in_reach body.now.address 0 0 no_pair (ops_run body.now.ops.now) }
+{
+    let mut e = InReach::new();
+    for (i, words) in body.ops.iter().rev().enumerate() {
+        let Some(next) = e.step(Op::from(*words), body.line(i)) else {
+            return false;
+        };
+        e = next;
     }
     true
 }
 
 // ---- refusal 4
 
+#[tactic(auto, unfolding(crate::specs::Arm64::op_fits))]
 fn op_fits(kind: u32, register: u32) -> bool
     ensures { result ≡ op_fits kind register }
 {
-    if kind < ALLOC_STACK {
-        return false;
+    match kind {
+        SAVE_REG..=SAVE_LR_PAIR => register <= MOST_REGISTER,
+        ALLOC_STACK..=UNDECODABLE => true,
+        _ => false,
     }
-    if kind < SAVE_REG {
-        return true;
-    }
-    if kind <= SAVE_LR_PAIR {
-        return register <= MOST_REGISTER;
-    }
-    kind <= UNDECODABLE
 }
 
-// Refusal 4 does not apply: ranges, and exactly the words that the counts demand.
-fn layout(body: &[u32]) -> bool
-    ensures { result ≡ arm_layout body.now }
+fn ops_fit(ops: &[[u32; OP_WORDS]]) -> bool
+    ensures { result ≡ list_all words_fit ops.now }
 {
-    let n = word(body, OPS_AT);
-    if MOST_OPS < n {
-        return false;
+    ops.iter()
+        .all(|&[kind, _, register, _]| op_fits(kind, register))
+}
+
+// The body, where refusal 4 does not apply: ranges, and exactly the words that the counts demand.
+fn layout(words: &[u32]) -> Option<Body<'_>>
+    ensures { MatchOption result (arm_layout words.now ≡ false) (λ b. Holds words.now b.address b.size b.ops.now) }
+{
+    let ([address, size, count], rest) = words.split_first_chunk::<HEADER_WORDS>()?;
+    if MOST_OPS < *count || rest.len() != OP_WORDS * *count as usize {
+        return None;
     }
-    let mut a: usize = FIRST_OP;
-    let mut k = n;
-    while 0 < k {
-        if !op_fits(word(body, a), word(body, a + REGISTER_AT)) {
-            return false;
-        }
-        a += OP_WORDS;
-        k -= 1;
+    let (ops, _) = rest.as_chunks::<OP_WORDS>();
+    if !ops_fit(ops) {
+        return None;
     }
-    a == body.len()
+    Some(Body {
+        address: *address,
+        size: *size,
+        ops: counted(ops),
+    })
 }
 
 // ---- entries that are skipped
 
-// An undecodable one before the first end.
-fn is_undecodable(body: &[u32]) -> bool
-    requires { get_or body.now 2 0 ≤ 1024 }
-    ensures { result ≡ undecodable body.now 3 (get_or body.now 2 0) }
+// An undecodable one among the operations that count.
+fn is_undecodable(body: &Body) -> bool
+    ensures { result ≡ list_any (is_kind 10) body.now.ops.now }
 {
-    let mut a: usize = FIRST_OP;
-    let mut k = word(body, OPS_AT);
-    while 0 < k {
-        let kind = word(body, a);
-        if kind == END {
-            return false;
-        }
-        if kind == UNDECODABLE {
-            return true;
-        }
-        a += OP_WORDS;
-        k -= 1;
-    }
-    false
+    body.ops.iter().any(|&[kind, ..]| kind == UNDECODABLE)
 }
 
 // ---- one entry
 
-// What becomes of an entry: refused by 4 or 6, skipped, or written.
-pub(crate) fn judge(body: &[u32]) -> Judged
-    ensures { result ≡ arm_judged body.now }
+// What becomes of an entry: refused by 4 or 6, skipped where there is no body, or this body is written.
+pub(crate) fn judge(words: &[u32]) -> Result<Option<Body<'_>>, Refusal>
+    ensures { MatchResult result (λ o. MatchOption o (arm_judged words.now ≡ Ok Skip) (λ b. Admitted words.now b.address b.size b.ops.now)) (λ r. arm_judged words.now ≡ Err r) }
 {
-    if !layout(body) {
-        return Judged::Refuse(refusal::LAYOUT);
+    let body = layout(words).ok_or(Refusal::Layout)?;
+    if is_undecodable(&body) {
+        return Ok(None);
     }
-    if is_undecodable(body) {
-        return Judged::Skip;
+    if !reach(&body) {
+        return Err(Refusal::Reach);
     }
-    if !reach(body, first_end(body)) {
-        return Judged::Refuse(refusal::REACH);
-    }
-    Judged::Write
+    Ok(Some(body))
 }

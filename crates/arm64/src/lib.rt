@@ -14,12 +14,12 @@ mod write;
 ghost use Rattle.entry.specs.Entry.{Processed};
 ghost use Rattle.arm64.specs.Arm64.{arm_entry};
 
-use body::first_end;
-use entry::{Judged, Last, Wrote, refusal};
+use entry::{Last, Wrote};
 use judge::judge;
+use refusal::Refusal;
 use write::put_lines;
 
-// An unwind operation with the words that it uses: letter, register and value where it saves.
+// An unwind operation with the words that it uses: letter, register and value where it saves. They stand side by side, as the definitions have them.
 #[derive(Clone, Copy)]
 pub enum Op {
     AllocStack(u32),
@@ -49,38 +49,35 @@ pub struct Saved {
     pub b: u64,
 }
 
+// What an operation saves: nothing, a register by itself, or two.
+#[derive(Clone, Copy)]
+pub enum Saves {
+    Nothing,
+    Alone(Saved),
+    Paired(Saved, Saved),
+}
+
 // The state between operations: T, and the second register of the last pair; and what the operation just run writes.
 #[derive(Clone, Copy)]
 pub struct BreakpadEncoder {
     pub stack_size: u64,
     pub last: Saved,
-    pub first: Saved,
-    pub second: Saved,
     pub cfa_touched: bool,
-    pub one: bool,
-    pub two: bool,
-    pub ra_written: bool,
+    pub saves: Saves,
 }
 
 // One entry: judged, and put at `at` where it is written. It leaves to the next what was left to it.
-pub fn process_pe_arm64(out: &mut [u8], at: usize, body: &[u32], last: Last) -> Wrote
+pub fn process_pe_arm64(
+    out: &mut [u8],
+    at: usize,
+    body: &[u32],
+    last: Option<Last>,
+) -> Result<Wrote, Refusal>
     ensures { Processed (arm_entry last body.now) out.old at out.new result }
 {
-    let judged = judge(body);
-    match judged {
-        Judged::Refuse(number) => Wrote { number, at, last },
-        Judged::Skip => Wrote {
-            number: refusal::NONE,
-            at,
-            last,
-        },
-        Judged::Write => {
-            let p = put_lines(out, at, body, first_end(body));
-            Wrote {
-                number: refusal::NONE,
-                at: p,
-                last,
-            }
-        }
-    }
+    let at = match judge(body)? {
+        Some(body) => put_lines(out, at, &body),
+        None => at,
+    };
+    Ok(Wrote { at, last })
 }

@@ -1,14 +1,16 @@
 // The lines of an ARM64 entry, one for each operation: the CFA where the stack grew, the registers that were saved, and the return address.
-ghost use Rattle.std.specs.Prelude.{not, ◌++◌, ◌^◌, ◌<◌, ◌≤◌, get_or, T};
+ghost use Rattle.std.specs.Prelude.{not, ◌++◌, ◌^◌, ◌<◌, ◌≤◌, T};
 ghost use Rattle.text.specs.Text.{Put, ascii};
 ghost use Rattle.names.specs.Names.{name_text};
-ghost use Rattle.arm64.specs.Arm64.{no_pair, place_text, saved_text, cfa_text, ra_text, given, defaults_text, first_line, later_line, nth_line, run, in_reach};
-ghost use Rattle.arm64.specs.Encoder.{step_text, Near, Small};
+ghost use Rattle.lines.specs.Lines.{rule, register, rule_text};
+ghost use Rattle.rules.specs.Rules.{reg_name};
+ghost use Rattle.arm64.specs.Arm64.{no_pair, place_text, saved_text, saves_text, writes_ra, cfa_text, ra_text, given, defaults_text, first_line, later_line, nth_line, run, in_reach};
+ghost use Rattle.arm64.specs.Encoder.{step_text, Near, EachNear};
 ghost use Rattle.arm64.specs.Index.{ops_run};
 
-use crate::body::{ADDRESS_AT, FIRST_OP, INSTRUCTION, OP_WORDS, SIZE_AT, op_at};
-use crate::{BreakpadEncoder, Saved};
-use entry::word;
+use crate::body::Body;
+use crate::judge::InReach;
+use crate::{Op, Saved, Saves};
 use lines::{put_init, put_later};
 use names::{Name, arm64_register_name};
 use rules::{Form, Reg, Rule, cfa_name, difference, put_rule, ra_name};
@@ -31,27 +33,36 @@ fn put_saved(out: &mut [u8], at: usize, name: Name, a: u64, b: u64) -> usize
     put_rule(out, at, Rule { name, form })
 }
 
-// A register where it is saved; nothing where none is.
-fn put_register(out: &mut [u8], at: usize, saved: bool, p: Saved) -> usize
+// A register where it is saved.
+fn put_register(out: &mut [u8], at: usize, p: Saved) -> usize
     requires { Near p }
-    ensures { Put out.old at (given saved (saved_text p)) out.new result }
+    ensures { Put out.old at (saved_text p) out.new result }
 {
-    if saved {
-        let name = arm64_register_name(p.letter, p.register as u32);
-        return put_saved(out, at, name, p.a, p.b);
-    }
-    at
+    let name = arm64_register_name(p.letter, p.register as u32);
+    put_saved(out, at, name, p.a, p.b)
 }
 
-fn put_ra(out: &mut [u8], at: usize, written: bool, p: Saved) -> usize
+fn put_ra(out: &mut [u8], at: usize, p: Saved) -> usize
     requires { Near p }
-    ensures { Put out.old at (given written (ra_text p)) out.new result }
+    ensures { Put out.old at (ra_text p) out.new result }
 {
-    if written {
-        let name = ra_name();
-        return put_saved(out, at, name, p.a, p.b);
+    put_saved(out, at, ra_name(), p.a, p.b)
+}
+
+// The registers that an operation saves, and the return address where the second is x30.
+fn put_saves(out: &mut [u8], at: usize, saves: Saves) -> usize
+    requires { EachNear saves }
+    ensures { Put out.old at (saves_text saves) out.new result }
+{
+    match saves {
+        Saves::Nothing => at,
+        Saves::Alone(p) => put_register(out, at, p),
+        Saves::Paired(p, q) => {
+            let at = put_register(out, at, p);
+            let at = put_register(out, at, q);
+            if q.is_lr() { put_ra(out, at, q) } else { at }
+        }
     }
-    at
 }
 
 fn put_cfa(out: &mut [u8], at: usize, touched: bool, total: u64) -> usize
@@ -69,90 +80,68 @@ fn put_cfa(out: &mut [u8], at: usize, touched: bool, total: u64) -> usize
 }
 
 // The rules of the operation just run.
-fn put_rules(out: &mut [u8], at: usize, e: BreakpadEncoder) -> usize
-    requires { Small e }
-    ensures { Put out.old at (step_text e) out.new result }
+fn put_rules(out: &mut [u8], at: usize, e: InReach) -> usize
+    ensures { Put out.old at (step_text e.state) out.new result }
 {
-    let p = put_cfa(out, at, e.cfa_touched, e.stack_size);
-    let p = put_register(out, p, e.one, e.first);
-    let p = put_register(out, p, e.two, e.second);
-    put_ra(out, p, e.ra_written, e.second)
+    let p = put_cfa(out, at, e.state.cfa_touched, e.state.stack_size);
+    put_saves(out, p, e.state.saves)
 }
 
 // ---- the lines
 
-fn put_default_cfa(out: &mut [u8], at: usize, touched: bool) -> usize
-    ensures { Put out.old at (given (not touched) (ascii " .cfa: .sp")) out.new result }
-{
-    if touched {
-        return at;
-    }
-    let reg = Reg::Sp;
-    let name = cfa_name();
-    let form = Form::Register(reg);
-    put_rule(out, at, Rule { name, form })
-}
-
-fn put_default_ra(out: &mut [u8], at: usize, written: bool) -> usize
-    ensures { Put out.old at (given (not written) (ascii " .ra: .x30")) out.new result }
+// What is taken for granted of a register where its rule is not written.
+fn put_default(out: &mut [u8], at: usize, written: bool, name: Name, reg: Reg) -> usize
+    ensures { Put out.old at (given (not written) (rule_text (rule (name_text name) (register (reg_name reg))))) out.new result }
 {
     if written {
         return at;
     }
-    let reg = Reg::Arm64(X, LINK);
-    let name = ra_name();
     let form = Form::Register(reg);
     put_rule(out, at, Rule { name, form })
 }
 
 // The function's first line, with what is taken for granted where it is not written.
-fn put_first_line(out: &mut [u8], at: usize, address: u32, size: u32, e: BreakpadEncoder) -> usize
-    requires { Small e }
-    ensures { Put out.old at (first_line address size (step_text e) (defaults_text e.cfa_touched e.ra_written)) out.new result }
+fn put_first_line(out: &mut [u8], at: usize, body: &Body, e: InReach) -> usize
+    ensures { Put out.old at (first_line body.now.address body.now.size (step_text e.state) (defaults_text e.state.cfa_touched (writes_ra e.state.saves))) out.new result }
 {
-    let p = put_init(out, at, address as u64, size as u64);
+    let p = put_init(out, at, body.address as u64, body.size as u64);
     let p = put_rules(out, p, e);
-    let p = put_default_cfa(out, p, e.cfa_touched);
-    let p = put_default_ra(out, p, e.ra_written);
+    let p = put_default(out, p, e.state.cfa_touched, cfa_name(), Reg::Sp);
+    let reg = Reg::Arm64(X, LINK);
+    let p = put_default(out, p, e.state.saves.writes_ra(), ra_name(), reg);
     put_byte(out, p, b'\n')
 }
 
-fn put_later_line(out: &mut [u8], at: usize, address: u64, e: BreakpadEncoder) -> usize
-    requires { Small e }
-    ensures { Put out.old at (later_line address (step_text e)) out.new result }
+fn put_later_line(out: &mut [u8], at: usize, address: u64, e: InReach) -> usize
+    ensures { Put out.old at (later_line address (step_text e.state)) out.new result }
 {
     let p = put_later(out, at, true, address);
     let p = put_rules(out, p, e);
     put_byte(out, p, b'\n')
 }
 
-fn put_line(out: &mut [u8], at: usize, address: u32, size: u32, i: u64, e: BreakpadEncoder) -> usize
-    requires { (i ≤ 1024) × Small e }
-    ensures { Put out.old at (nth_line address size i (step_text e) (defaults_text e.cfa_touched e.ra_written)) out.new result }
+// Line i.
+fn put_line(out: &mut [u8], at: usize, body: &Body, i: usize, e: InReach) -> usize
+    requires { i ≤ 1024 }
+    ensures { Put out.old at (nth_line body.now.address body.now.size i (step_text e.state) (defaults_text e.state.cfa_touched (writes_ra e.state.saves))) out.new result }
 {
     if i == 0 {
-        return put_first_line(out, at, address, size, e);
+        return put_first_line(out, at, body, e);
     }
-    put_later_line(out, at, address as u64 + INSTRUCTION * i, e)
+    put_later_line(out, at, body.line(i), e)
 }
 
-// The lines of the first n operations, run backwards.
-pub(crate) fn put_lines(out: &mut [u8], at: usize, body: &[u32], n: usize) -> usize
-    requires { (n ≤ 1024) × T (in_reach (get_or body.now 0 0) 0 0 no_pair (ops_run body.now 3 n)) }
-    ensures { Put out.old at (run (get_or body.now 0 0) (get_or body.now 1 0) 0 0 no_pair (ops_run body.now 3 n)) out.new result }
+// The lines of the operations, run backwards. `reach` goes over them too; a fold for both would hold the slice in a closure, of which no proof knows
+// the text behind it.
+pub(crate) fn put_lines(out: &mut [u8], at: usize, body: &Body) -> usize
+    requires { T (in_reach body.now.address 0 0 no_pair (ops_run body.now.ops.now)) }
+    ensures { Put out.old at (run body.now.address body.now.size 0 0 no_pair (ops_run body.now.ops.now)) out.new result }
 {
-    let address = word(body, ADDRESS_AT);
-    let size = word(body, SIZE_AT);
-    let mut e = BreakpadEncoder::new();
+    let mut e = InReach::new();
     let mut p = at;
-    let mut i: u64 = 0;
-    let mut k = n;
-    while 0 < k {
-        k -= 1;
-        let op = op_at(body, FIRST_OP + OP_WORDS * k);
-        e = e.step(op);
-        p = put_line(out, p, address, size, i, e);
-        i += 1;
+    for (i, words) in body.ops.iter().rev().enumerate() {
+        e = e.step(Op::from(*words), body.line(i)).unwrap();
+        p = put_line(out, p, body, i, e);
     }
     p
 }

@@ -2,13 +2,15 @@
 // Words: kind, count n, n pairs of a body's first word and its length, then the bodies without gaps.
 #![tactic(auto)]
 
-ghost use Rattle.std.specs.Prelude.{◌≡◌, ◌+◌, ◌*◌, ◌≤◌, length, get_or};
-ghost use Rattle.book.specs.Book.{kind, count, start_of, size_of, first_body, header_ok, bodies_ok, contents_ok};
+mod bodies;
+mod kind;
 
+ghost use Rattle.std.specs.Prelude.{◌≡◌, ◌&&◌, ◌+◌, ◌*◌, ◌≤◌, leb, length, get_or};
+ghost use Rattle.book.specs.Book.{KINDS, kind, count, start_of, size_of, first_body, header_ok, bodies_ok, contents_ok};
+
+pub use bodies::{Bodies, Book};
 use entry::word;
-
-// The kinds: 1 to this one.
-const KINDS: u32 = 4;
+pub use kind::{Kind, UnknownKind};
 
 const MOST_BODIES: usize = 1024;
 
@@ -55,28 +57,20 @@ pub fn size_of(book: &[u32], i: usize) -> usize
     pair_word(book, i, 1)
 }
 
+fn is_kind(number: u32) -> bool
+    ensures { result ≡ (leb 1 number && leb number KINDS) }
+{
+    Kind::try_from(number).is_ok()
+}
+
 // The kind, the count and the room for the contents pairs.
+#[tactic(auto, unfolding(crate::specs::Book::header_ok))]
 fn header_ok(book: &[u32]) -> bool
     ensures { result ≡ header_ok book.now }
 {
-    if book.len() < 2 {
-        return false;
-    }
-    if MOST_WORDS < book.len() {
-        return false;
-    }
-    let kind = kind_of(book);
-    if kind < 1 {
-        return false;
-    }
-    if KINDS < kind {
-        return false;
-    }
     let n = count_of(book);
-    if MOST_BODIES < n {
-        return false;
-    }
-    2 + 2 * n <= book.len()
+    let sized = (2 <= book.len()) & (book.len() <= MOST_WORDS);
+    sized & is_kind(kind_of(book)) & (n <= MOST_BODIES && 2 + 2 * n <= book.len())
 }
 
 // The bodies of n contents pairs follow each other without gaps and end the book.
@@ -85,8 +79,7 @@ fn bodies_ok(book: &[u32], n: usize) -> bool
     ensures { result ≡ bodies_ok book.now n 0 (first_body n) }
 {
     let mut at = 2 + 2 * n;
-    let mut i = 0;
-    while i < n {
+    for i in 0..n {
         if start_of(book, i) != at {
             return false;
         }
@@ -95,7 +88,6 @@ fn bodies_ok(book: &[u32], n: usize) -> bool
             return false;
         }
         at += k;
-        i += 1;
     }
     at == book.len()
 }

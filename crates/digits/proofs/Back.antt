@@ -1,28 +1,14 @@
 -- Digits stored from the last one back: what is left to store, and how many digits there are.
 use mathlib.Core.Path.{◌≡◌, refl, sym, ap, ◌∙◌, subst}
 use mathlib.Core.List.{List, [], ◌∷◌, ◌++◌, append_assoc, append-nil}
-use Prim.Native.Nat.{ℕ, zero, suc, ◌+◌, ◌-◌, ◌/◌, ◌%◌, ◌^◌, ◌≤◌, ◌<◌}
-use native.Mathlib.Nat.{mod-eq_of_lt, pow-le-pow_left}
+use Prim.Native.Nat.{ℕ, zero, suc, ◌+◌, ◌-◌, ◌/◌, ◌%◌, ◌≤◌, ◌<◌}
+use native.Mathlib.Nat.{mod-eq_of_lt}
 use native.Mathlib.Omega.{arith}
 use lib.ListN.{length, set, length-append}
 use lib.Seq.{sets, set_comm}
 use Rattle.text.specs.Text.{MAX, Put}
 use Rattle.digits.specs.Digits.{digit, digits}
-use Rattle.digits.specs.Digits.Laws.{digits_ind, digits_one, digits_more, digits_length}
-
--- ---- how many
-
-pub count_one : (b n : ℕ) → n < b → length (digits b n) ≡ 1
-count_one b n h = ap length (digits_one b n h)
-
-pub count_more : (b n : ℕ) → 1 < b → b ≤ n → length (digits b n) ≡ suc (length (digits b (n / b)))
-count_more b n two h = ap length (digits_more b n two h) ∙ length-append (digits b (n / b)) (digit (n % b) ∷ []) ∙ omega arith
-
--- a u64 has at most 64 digits in any base
-pub count_few : (b n : ℕ) → 1 < b → n < 2 ^ 64 → length (digits b n) ≤ 64
-count_few b n two h = digits_length b 63 n two (omega (arith, pow-le-pow_left {n = 2} {m = b} two 64))
-
--- ---- from the last one back
+use Rattle.digits.specs.Digits.Laws.{digits_ind}
 
 -- the last k digits of v
 abbrev pub low : ℕ → ℕ → ℕ → List ℕ
@@ -72,10 +58,8 @@ back_more {b} {x} {d} {at} {k} {v} {d₁} c h p e =
     let s : k ≡ suc (k - 1) = omega arith in
     back_one c (subst (λ (j : ℕ). Back b x d at j v d₁) s p) e
 
-pub back_put : {b x : ℕ} {d : List ℕ} {at v : ℕ} {d₁ : List ℕ} (r : ℕ) → Back b x d at 0 v d₁ → length d ≤ MAX → r ≡ at + length (digits b x) → r ≤ length d
-    → Put d at (digits b x) d₁ r
-back_put {b} {x} {d} {at} {v} {d₁} r p h e k = record {
-  bytes = p.stored ∙ ap (λ (i : ℕ). sets d i p.tail) (omega arith) ∙ ap (sets d at) p.rest;
-  next = omega (arith, e);
-  short = h;
-}
+pub back_put : {b x n : ℕ} {d : List ℕ} {at k v : ℕ} {d₁ : List ℕ} → Back b x d at k v d₁ → k ≤ 0 → n ≡ length (digits b x) → at + n ≤ length d → length d ≤ MAX
+    → Put d at (digits b x) d₁ (at + n)
+back_put {d = d} {at = at} {k = zero} p z e f h =
+    record { bytes = p.stored ∙ ap (λ (i : ℕ). sets d i p.tail) (omega arith) ∙ ap (sets d at) p.rest; next = omega (arith, e); short = h }
+back_put {k = suc k} p z e f h = absurd (omega arith)

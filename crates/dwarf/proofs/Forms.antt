@@ -5,19 +5,17 @@ use native.Mathlib.Omega.{arith}
 use mathlib.Core.Bool.{Bool, true, false, cond, ◌&&◌}
 use mathlib.Core.List.{List, [], ◌∷◌, ◌++◌}
 use lib.ListN.{length, get_or-eq_default}
-use lib.Dec.{eqb, ltb}
-use borrow.Author.Tests.{eq-eqb, ne_eqb, eqb-true, eqb-false, lt-ltb, le-ltb}
+use lib.Dec.{eqb}
 use Rattle.text.specs.Text.{ascii, MAX, Put}
 use Rattle.text.specs.Tests.{any}
 use Rattle.text.specs.Text.Laws.{put_as, put_none}
 use Rattle.tables.specs.Tables.{table, cfi_name, i386, x86_64, arm, arm64, ppc, mips}
 use Rattle.lines.specs.Lines.{Bytes, rule_text}
 use Rattle.rules.specs.Rules.{rule_of}
-use Rattle.dwarf.specs.declared.RegisterRule.{RegisterRule}
-use Rattle.dwarf.specs.declared.CfaRule.{CfaRule}
-use Rattle.dwarf.specs.declared.Formatted.{Formatted}
-use Rattle.dwarf.specs.Dwarf.{form_bytes, named_bytes, cfa_differs, last_cfa}
-use Rattle.dwarf.specs.Cache.{cfa_if, formatted}
+use Rattle.rules.specs.declared.Rule.{Rule}
+use Rattle.dwarf.specs.Dwarf.{named_bytes}
+use Rattle.dwarf.specs.Cache.{formatted}
+use Rattle.std.specs.Prelude.{Option, Some, None, is_some}
 
 -- ---- no table reaches register 65,536
 
@@ -35,71 +33,36 @@ pub name_far : (f v : ℕ) → 65536 ≤ v → cfi_name f v ≡ []
 unfolding cfi_name
 name_far f v h = get_or-eq_default (table f) [] (omega (arith, table_short f))
 
--- ---- forms and rules
+-- ---- forms and rules that may not be there
 
-pub name_form_lem : (n : Bytes) (t : Bool) → t ≡ any n → cond t n [] ≡ n
+-- nothing is an empty name
+pub none_any : (n : Bytes) → any n ≡ false → [] ≡ n
 unfolding any
-name_form_lem [] t e = rw e
-name_form_lem (c ∷ n) t e = rw e
+none_any [] e = refl
+none_any (c ∷ n) e = cc
 
--- a form with the bytes t, there by s, under a name that is there by u
-pub named_of : (s u : Bool) (n x t : Bytes) → s ≡ any t → cond s x [] ≡ t → u ≡ any n → cond (s && u) (ascii " " ++ n ++ ascii ": " ++ x) [] ≡ named_bytes n t
-unfolding named_bytes any
-named_of true u [] x t e f k = rw k
-named_of true u (c ∷ n) x t e f k = rw (k, ← e, ← f)
-named_of false u [] x t e f k = refl
-named_of false u (c ∷ n) x t e f k = rw (← e)
+-- a rule is there where its name and its form are
+pub named_some : (n x t : Bytes) → any n ≡ true → any t ≡ true → x ≡ t → ascii " " ++ n ++ ascii ": " ++ x ≡ named_bytes n t
+unfolding named_bytes
+named_some n x t e f k = rw (e, f, k)
 
-pub named_ra : (s : Bool) (x t : Bytes) → s ≡ any t → cond s x [] ≡ t → cond s (ascii " .ra: " ++ x) [] ≡ named_bytes (ascii ".ra") t
-unfolding named_bytes any
-named_ra true x t e f = rw (← e, ← f)
-named_ra false x t e f = rw (← e)
+pub no_name : (n t : Bytes) → any n ≡ false → [] ≡ named_bytes n t
+unfolding named_bytes
+no_name n t e = rw e
 
-pub some_any : (f : Formatted) (t : Bytes) → formatted f ≡ t → f.some ≡ any t
+pub no_form : (n t : Bytes) → any t ≡ false → [] ≡ named_bytes n t
+unfolding named_bytes
+no_form n t e = go (any n)
+  where
+    go : (b : Bool) → [] ≡ cond (b && any t) (ascii " " ++ n ++ ascii ": " ++ t) []
+    go true = rw e
+    go false = refl
+
+-- whether there is a rule is whether it has bytes
+pub some_any : (f : Option Rule) (t : Bytes) → formatted f ≡ t → is_some f ≡ any t
 unfolding formatted any rule_text rule_of
-some_any f t e = go f.some ∙ ap any e
-  where
-    go : (t : Bool) → t ≡ any (cond t (rule_text (rule_of f.rule)) [])
-    go true = refl
-    go false = refl
-
--- a rule is written where its name and its form are there
-pub any_named : (n t : Bytes) → any (named_bytes n t) ≡ any n && any t
-unfolding named_bytes any
-any_named n t = go (any n && any t)
-  where
-    go : (u : Bool) → any (cond u (ascii " " ++ n ++ ascii ": " ++ t) []) ≡ u
-    go true = refl
-    go false = refl
-
--- ---- whether there is a form, by the kinds
-
-module _ (f : ℕ) (x : RegisterRule) where
-  pub form_same : {t : Bool} → x.kind ≡ 0 → t ≡ any (cfi_name f x.register) → t ≡ any (form_bytes f x)
-  unfolding form_bytes
-  form_same e k = rw (eq-eqb x.kind 0 e) k
-
-  pub form_register : {t : Bool} → x.kind ≡ 3 → t ≡ any (cfi_name f x.value) → t ≡ any (form_bytes f x)
-  unfolding form_bytes
-  form_register e k = rw e k
-
-  pub form_plain : (x.kind ≡ 0 → ⊥) → (x.kind ≡ 3 → ⊥) → ltb x.kind 3 ≡ any (form_bytes f x)
-  unfolding form_bytes any
-  form_plain h k = go (eqb x.kind 1) refl (eqb x.kind 2) refl
-    where
-      go : (u : Bool) → eqb x.kind 1 ≡ u → (v : Bool) → eqb x.kind 2 ≡ v → ltb x.kind 3 ≡ any (form_bytes f x)
-      go true e v g = rw (ne_eqb x.kind 0 h, e) (lt-ltb x.kind 3 (omega (arith, eqb-true x.kind 1 e)))
-      go false e true g = rw (ne_eqb x.kind 0 h, e, g) (lt-ltb x.kind 3 (omega (arith, eqb-true x.kind 2 g)))
-      go false e false g =
-          rw (ne_eqb x.kind 0 h, e, g, ne_eqb x.kind 3 k) (le-ltb x.kind 3 (omega (arith, h, k, eqb-false x.kind 1 e, eqb-false x.kind 2 g)))
-
--- ---- the CFA last seen
-
-pub cfa_none : (s : Bool) (y x : CfaRule) → s ≡ false → true ≡ cfa_differs (cfa_if s y) x
-cfa_none s y x e = sym (ap (λ (t : Bool). cfa_differs (cfa_if t y) x) e)
-
-pub cfa_some : (s : Bool) (y x : CfaRule) (t : Bool) → s ≡ true → t ≡ cfa_differs (last_cfa y) x → t ≡ cfa_differs (cfa_if s y) x
-cfa_some s y x t e k = k ∙ sym (ap (λ (t : Bool). cfa_differs (cfa_if t y) x) e)
+some_any None t e = ap any e
+some_any (Some r) t e = ap any e
 
 -- ---- puts, where a test holds, and where it does not
 

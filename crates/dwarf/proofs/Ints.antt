@@ -1,9 +1,15 @@
--- -1 - k, for words in two's complement.
-use mathlib.Core.Path.{◌≡◌, refl, ap}
-use Prim.Native.Nat.{ℕ, zero, suc}
+-- 64 bits in two's complement, as the library casts them.
+use mathlib.Core.Path.{◌≡◌, ap, ◌∙◌}
+use Prim.Native.Nat.{ℕ, ◌^◌}
 use native.Mathlib.Omega.{arith}
-use lib.IntN.{pos, negsuc, ◌-ℤ◌}
+use mathlib.Core.Bool.{cond}
+use lib.Dec.{ltb}
+use lib.IntN.{ℤ, pos, negsuc}
+use mir.Syntax.{w64}
+use mir.Val.{to_z, of_z, SFits}
+use mir.Facts.{to_z-of_z}
+use Rattle.dwarf.specs.Dwarf.{twos}
 
-pub below_zero : (k : ℕ) → negsuc 0 -ℤ pos k ≡ negsuc k
-below_zero zero = refl
-below_zero (suc k) = ap negsuc (omega arith)
+pub cast_is : {z : ℤ} (v : ℕ) → SFits w64 z → z ≡ to_z w64 v → to_z w64 (of_z w64 z) ≡ twos v
+unfolding twos
+cast_is v f e = to_z-of_z f ∙ e ∙ ap (λ (n : ℕ). cond (ltb v (2 ^ 63)) (pos v) (negsuc n)) (omega arith)

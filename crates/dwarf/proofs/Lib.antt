@@ -6,3 +6,4 @@ pub mod Forms
 pub mod Loops
 pub mod Rows
 pub mod Meeting
+pub mod Chains

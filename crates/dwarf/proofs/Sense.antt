@@ -1,6 +1,6 @@
 -- The text of a DWARF entry as its rows are run is the text of its sense, and the lines are well formed.
-use Rattle.std.specs.Prelude.{◌≡◌, refl, ℕ, zero, suc, ◌+◌, ◌-◌, Bool, true, false, not, cond, ◌&&◌, ◌||◌, List, [], ◌∷◌, ◌++◌, ℤ, T, eqb, leb}
-use Rattle.std.proofs.Common.{sym, ap, ap₂, ◌∙◌, append_assoc, append-nil, arith}
+use Rattle.std.specs.Prelude.{◌≡◌, refl, ℕ, zero, suc, ◌-◌, Bool, true, false, not, cond, ◌&&◌, ◌||◌, List, [], ◌∷◌, ◌++◌, ℤ, T, eqb, leb, Option}
+use Rattle.std.proofs.Common.{sym, ap, ap₂, ◌∙◌, append_assoc, append-nil}
 use Rattle.std.proofs.Math.Path.{fun_ext}
 use Rattle.text.specs.Text.{ascii}
 use Rattle.digits.specs.Digits.{hex, signed}
@@ -10,6 +10,7 @@ use Rattle.lines.specs.Lines.{Bytes, Form, register, register_plus, cfa_plus, at
 use Rattle.lines.specs.Lines.{rule_text, rules_text, init_text, later_text, line_text, render, name_ok, register_ok, form_ok, rule_ok, line_ok}
 use Rattle.lines.specs.Lines.Laws.{rules_append, render_append, render_unless}
 use Rattle.rules.specs.Rules.Laws.{cfi_ok}
+use Rattle.refusal.specs.declared.Refusal.TheVariants.{Reach}
 use Rattle.entry.specs.declared.Last.{Last}
 use Rattle.entry.specs.Entry.Laws.{Accepted, accepted}
 use Rattle.dwarf.specs.declared.RegisterRule.{RegisterRule}
@@ -267,11 +268,11 @@ dwarf_text_lem b h = sym (rows_ran b [] no_cfa nothing_seen (rows b) refl refl (
 
 -- ---- an entry that is not refused: its text is that of its lines, unless it is skipped
 
-pub dwarf_accepted : (last : Last) (b : List ℕ) → (dwarf_entry last b).number ≡ 0 → Accepted (dwarf_layout b) (dwarf_skipped b) (dwarf_judged b) (dwarf_text b) last last
+pub dwarf_accepted : (last : Option Last) (b : List ℕ) → (dwarf_entry last b).number ≡ 0 → Accepted (dwarf_layout b) (dwarf_skipped b) (dwarf_judged b) (dwarf_text b) last last
 unfolding dwarf_entry dwarf_judged
-dwarf_accepted last b = accepted (dwarf_layout b) (dwarf_skipped b) (dwarf_reach b) 6 (dwarf_text b) last last (λ e z. omega arith)
+dwarf_accepted last b = accepted (dwarf_layout b) (dwarf_skipped b) (dwarf_reach b) Reach (dwarf_text b) last last
 
-pub dwarf_entry_text : (last : Last) (b : List ℕ) → (dwarf_entry last b).number ≡ 0 → (dwarf_entry last b).text ≡ render false (cond (dwarf_skipped b) [] (dwarf_lines b))
+pub dwarf_entry_text : (last : Option Last) (b : List ℕ) → (dwarf_entry last b).number ≡ 0 → (dwarf_entry last b).text ≡ render false (cond (dwarf_skipped b) [] (dwarf_lines b))
 unfolding dwarf_entry
 dwarf_entry_text last b e =
     let a = dwarf_accepted last b e in

@@ -1,7 +1,9 @@
--- The rules last seen as the code keeps them: arrays with a count, and what they say of each register.
-use Rattle.std.specs.Prelude.{◌≡◌, Bool, false, cond, ◌||◌, List, [], ◌∷◌, ◌++◌, ℕ, suc, ◌+◌, take, get_or, eqb, ltb}
+-- The rules last seen as the code keeps them: arrays with a count, and what they say of each register; and what its walks have left.
+use Rattle.std.specs.Prelude.{◌≡◌, Bool, true, cond, ◌||◌, ◌&&◌, List, [], ◌∷◌, ◌++◌, ℕ, suc, ◌+◌, take, get_or, eqb, leb, ltb, Option, Some, None, is_some}
 use Rattle.text.specs.Tests.{any}
 use Rattle.lines.specs.Lines.{form_text, rule_text}
+use Rattle.rules.specs.declared.Form.{Form}
+use Rattle.rules.specs.declared.Rule.{Rule}
 use Rattle.rules.specs.Rules.{form_of, rule_of}
 use Rattle.dwarf.specs.declared.RegisterRule.{RegisterRule}
 use Rattle.dwarf.specs.declared.CfaRule.{CfaRule}
@@ -10,10 +12,10 @@ use Rattle.dwarf.specs.declared.RuleCache.{RuleCache}
 use Rattle.dwarf.specs.declared.RowState.{RowState}
 use Rattle.dwarf.specs.declared.RowScan.{RowScan}
 use Rattle.dwarf.specs.declared.Registers.{Registers}
-use Rattle.dwarf.specs.declared.Met.{Met}
-use Rattle.dwarf.specs.declared.Formed.{Formed}
-use Rattle.dwarf.specs.declared.Formatted.{Formatted}
-use Rattle.dwarf.specs.Dwarf.{Seen, never, seen, CfaSeen, no_cfa, last_cfa, distinct, remember, Row, cfa_bytes, seen_after, ran_rules, ran_moved}
+use Rattle.dwarf.specs.declared.body.Rules.{Rules}
+use Rattle.dwarf.specs.declared.body.RowWords.{RowWords}
+use Rattle.dwarf.specs.declared.body.Rows.{Rows}
+use Rattle.dwarf.specs.Dwarf.{Seen, never, seen, CfaSeen, no_cfa, last_cfa, distinct, remember, Row, rules_from, row_at, rows_from, cfa_bytes, seen_after, ran_rules, ran_moved}
 
 -- the first place of q in a list, or the list's length
 unfoldable pub first_in : List ℕ → ℕ → ℕ
@@ -33,11 +35,12 @@ unfoldable pub lookup : RuleCache → ℕ → Seen
 lookup c q = cond (ltb (place_of c q) c.count) (seen (get_or c.kind (place_of c q) 0) (get_or c.value (place_of c q) 0)) never
 
 -- the CFA last seen, if any
-abbrev pub cfa_if : Bool → CfaRule → CfaSeen
-cfa_if t x = cond t (last_cfa x) no_cfa
+abbrev pub cfa_if : Option CfaRule → CfaSeen
+cfa_if None = no_cfa
+cfa_if (Some x) = last_cfa x
 
 abbrev pub cfa_of : RowState → CfaSeen
-cfa_of s = cfa_if s.cfa_seen s.cfa
+cfa_of s = cfa_if s.cfa
 
 -- a register that was never seen takes one place more
 abbrev pub newly : Seen → ℕ
@@ -52,24 +55,26 @@ fresh c (x ∷ xs) = newly (c x.register) + fresh (remember c x) xs
 -- ---- what the code hands on of forms and rules that may not be there
 
 -- the bytes of the form, if there is one
-unfoldable pub formed : Formed → List ℕ
-formed f = cond f.some (form_text (form_of f.form)) []
+unfoldable pub formed : Option Form → List ℕ
+formed None = []
+formed (Some f) = form_text (form_of f)
 
 -- the form's bytes are t, and there is one where there are any
-pub record Forms (t : List ℕ) (f : Formed) : Type 0 where
-  pub some_is : f.some ≡ any t
+pub record Forms (t : List ℕ) (f : Option Form) : Type 0 where
+  pub some_is : is_some f ≡ any t
   pub bytes_are : formed f ≡ t
 
 -- the bytes of the rule, if there is one
-unfoldable pub formatted : Formatted → List ℕ
-formatted f = cond f.some (rule_text (rule_of f.rule)) []
+unfoldable pub formatted : Option Rule → List ℕ
+formatted None = []
+formatted (Some r) = rule_text (rule_of r)
 
 -- ---- what loops over a row's rules, from the rules c last seen on, come to
 
--- `already` says that something was written before them
-pub record Scanned (family ra : ℕ) (c : RuleCache) (already : Bool) (xs : List RegisterRule) (r : RowScan) : Type 0 where
-  pub sees : lookup r.rules ≡ seen_after (lookup c) xs
-  pub counts : r.rules.count ≡ c.count + fresh (lookup c) xs
+-- to the rules d; `already` says that something was written before them
+pub record Scanned (family ra : ℕ) (c : RuleCache) (already : Bool) (xs : List RegisterRule) (d : RuleCache) (r : RowScan) : Type 0 where
+  pub sees : lookup d ≡ seen_after (lookup c) xs
+  pub counts : d.count ≡ c.count + fresh (lookup c) xs
   pub writes : r.written ≡ already || any (ran_rules family ra (lookup c) xs)
   pub moves : r.ra_written ≡ ran_moved ra (lookup c) xs
 
@@ -83,13 +88,28 @@ pub record After (s : RowState) (w : Row) (r : RowState) : Type 0 where
 abbrev pub ran_parts : Fde → Bool → (ℕ → Seen) → Row → List ℕ
 ran_parts e changed c w = cond changed (cfa_bytes e.family w.cfa) [] ++ ran_rules e.family e.ra c w.rules
 
+-- ---- what the walks have left
+
+abbrev pub rules_left : Rules → List RegisterRule
+rules_left r = rules_from r.words.now r.left r.at
+
+abbrev pub row_of : RowWords → Row
+row_of r = row_at r.words.now r.at
+
+abbrev pub rows_left : Rows → List Row
+rows_left r = rows_from r.words.now r.left r.at
+
 -- ---- the registers met in a body
 
 -- in the order in which they were met
 abbrev pub held : Registers → List ℕ
 held c = take c.count c.number
 
--- after c the registers rs: whether there is no room for all, and else what others, ys, will add
-pub record Known (c : Registers) (rs : List ℕ) (r : Met) : Type 0 where
-  pub tells : r.over ≡ ltb 64 (c.count + distinct (held c) rs)
-  pub counts : r.over ≡ false → (ys : List ℕ) → r.registers.count + distinct (held r.registers) ys ≡ c.count + distinct (held c) (rs ++ ys)
+-- after c the registers rs: whether there is room for all, and then what others, ys, will add
+pub record Known (c : Registers) (rs : List ℕ) (d : Registers) (r : Bool) : Type 0 where
+  pub tells : r ≡ leb (c.count + distinct (held c) rs) 64
+  pub counts : r ≡ true → (ys : List ℕ) → d.count + distinct (held d) ys ≡ c.count + distinct (held c) (rs ++ ys)
+
+-- what a rule of a row keeps to (`rule_fits`)
+abbrev pub fits : RegisterRule → Bool
+fits x = ltb x.register 65536 && cond (eqb x.kind 3) (ltb x.value 65536) (leb x.kind 4)

@@ -1,14 +1,14 @@
 -- A DWARF body (document 01, "DWARF body"): its rows from the words, refusals 4 and 6, skipping, and its text in bytes, as the rows are run.
 -- A body's words are ws; a word that is missing reads 0.
-use Rattle.std.specs.Prelude.{ℕ, zero, suc, ◌+◌, ◌-◌, ◌*◌, ◌^◌, Bool, true, false, not, cond, ◌&&◌, ◌||◌, List, [], ◌∷◌, ◌++◌, length, ℤ, pos, negsuc, ltb, leb, eqb}
+use Rattle.std.specs.Prelude.{ℕ, zero, suc, ◌+◌, ◌-◌, ◌*◌, ◌^◌, Bool, true, false, not, cond, ◌&&◌, ◌||◌, List, [], ◌∷◌, ◌++◌, length, ℤ, pos, negsuc, ltb, leb, eqb, Option, Ok, Err}
 use Rattle.text.specs.Text.{ascii}
 use Rattle.text.specs.Tests.{any}
 use Rattle.digits.specs.Digits.{hex, signed, Digits·open}
 use Rattle.tables.specs.Tables.{cfi_name, table, i386, x86_64, arm, arm64, ppc, mips}
 use Rattle.entry.specs.declared.Last.{Last}
-use Rattle.entry.specs.declared.Judged.{Judged}
-use Rattle.entry.specs.declared.Judged.TheVariants.{Refuse, Skip, Write}
-use Rattle.entry.specs.Entry.{Entry, comes_to, word}
+use Rattle.refusal.specs.declared.Refusal.TheVariants.{Layout, Reach}
+use Rattle.entry.specs.declared.Fate.TheVariants.{Skip, Write}
+use Rattle.entry.specs.Entry.{Entry, Judged, comes_to, word}
 use Rattle.dwarf.specs.declared.RegisterRule.{RegisterRule}
 use Rattle.dwarf.specs.declared.CfaRule.{CfaRule}
 use Rattle.dwarf.specs.declared.Fde.{Fde}
@@ -176,7 +176,7 @@ dwarf_reach ws = not (ltb (last_end 0 (rows ws)) (first_start (rows ws)) || any_
 
 -- 4, skipping, then 6
 unfoldable pub dwarf_judged : List ℕ → Judged
-dwarf_judged ws = cond (dwarf_layout ws) (cond (dwarf_skipped ws) Skip (cond (dwarf_reach ws) Write (Refuse 6))) (Refuse 4)
+dwarf_judged ws = cond (dwarf_layout ws) (cond (dwarf_skipped ws) (Ok Skip) (cond (dwarf_reach ws) (Ok Write) (Err Reach))) (Err Layout)
 
 -- ---- what a rule and a CFA write, in bytes: none where a name lacks. An empty name is none.
 
@@ -290,7 +290,7 @@ unfoldable pub dwarf_text : List ℕ → List ℕ
 dwarf_text ws = ran_rows (fde_of ws) no_cfa nothing_seen (rows ws)
 
 -- DWARF passes on what was left to it
-unfoldable pub dwarf_entry : Last → List ℕ → Entry
+unfoldable pub dwarf_entry : Option Last → List ℕ → Entry
 dwarf_entry last ws = comes_to (dwarf_judged ws) (dwarf_text ws) last last
 
 -- what to unfold where DWARF entries are to compute

@@ -3,12 +3,10 @@ use Rattle.std.specs.Prelude.{◌≡◌, refl, ℕ, zero, suc, ◌+◌, ◌-◌,
 use Rattle.std.proofs.Common.{sym, ap, arith, length-append, leb→le, eqb→eq, le-leb, ne_eqb}
 use Rattle.std.proofs.lemmas.Bool.{eqb-false}
 use Rattle.text.specs.Tests.{is_false, and_l, and_r, one_less}
-use Rattle.entry.specs.declared.Judged.TheVariants.{Write}
 use Rattle.dwarf.specs.declared.RegisterRule.{RegisterRule}
 use Rattle.entry.specs.Entry.{word}
-use Rattle.entry.specs.Entry.Laws.{only_written}
-use Rattle.dwarf.specs.Dwarf.{rule_at, rules_from, rule_count, next_row, row_at, rows_from, row_count, rows, wide, first_start, registers, member, once, distinct, rule_fits, rules_fit, cfa_fits}
-use Rattle.dwarf.specs.Dwarf.{row_fits, rows_fit, rules_of, head_fits, dwarf_layout, dwarf_skipped, dwarf_reach, dwarf_judged}
+use Rattle.dwarf.specs.Dwarf.{rule_at, rules_from, rule_count, next_row, row_at, rows_from, row_count, rows, registers, member, once, distinct, rules_fit, cfa_fits}
+use Rattle.dwarf.specs.Dwarf.{row_fits, rows_fit, rules_of, head_fits, dwarf_layout}
 use Rattle.dwarf.specs.Dwarf.{rule_bytes, Seen, seen, differs, remember, seen_after, ran_rules, nothing_seen}
 use Rattle.dwarf.specs.Cache.{newly, fresh}
 
@@ -21,10 +19,6 @@ rules_step ws n a h = ap (λ (k : ℕ). rules_from ws k a) (one_less n h)
 pub rows_step : (ws : List ℕ) (m a : ℕ) → 0 < m → rows_from ws m a ≡ row_at ws a ∷ rows_from ws (m - 1) (next_row ws a)
 unfolding rows_from
 rows_step ws m a h = ap (λ (k : ℕ). rows_from ws k a) (one_less m h)
-
-pub rules_fit_step : (ws : List ℕ) (n a : ℕ) → 0 < n → rules_fit ws n a ≡ rule_fits ws a && rules_fit ws (n - 1) (a + 4)
-unfolding rules_fit
-rules_fit_step ws n a h = ap (λ (k : ℕ). rules_fit ws k a) (one_less n h)
 
 pub rows_fit_step : (ws : List ℕ) (m a : ℕ) → 0 < m → rows_fit ws m a ≡ row_fits ws a && rows_fit ws (m - 1) (next_row ws a)
 unfolding rows_fit
@@ -154,32 +148,3 @@ pub ran_row_lem : (f ra : ℕ) (c : ℕ → Seen) (xs : List RegisterRule) → T
 unfolding ran_rules row_rules
 ran_row_lem f ra c [] h = refl
 ran_row_lem f ra c (x ∷ xs) h = rw (ran_row_lem f ra (remember c x) xs (once_rest x xs h), row_free f ra c x xs (once_free x xs h))
-
--- they take as many places
-fresh_same : (x : RegisterRule) (c d : ℕ → Seen) (xs : List RegisterRule) → ((q : ℕ) → eqb x.register q ≡ false → c q ≡ d q)
-    → member x.register (registers xs) ≡ false → fresh c xs ≡ fresh d xs
-unfolding fresh member registers
-fresh_same x c d [] e h = refl
-fresh_same x c d (y ∷ ys) e h = rw (
-  e y.register (apart y.register x.register (or_l (eqb y.register x.register) _ h)),
-  fresh_same x (remember c y) (remember d y) ys (λ q k. ap (λ (s : Seen). cond (eqb y.register q) (seen y.kind y.value) s) (e q k)) (or_r (eqb y.register x.register) _ h),
-)
-
-pub fresh_free : (c : ℕ → Seen) (x : RegisterRule) (xs : List RegisterRule) → T (once (registers (x ∷ xs))) → fresh (remember c x) xs ≡ fresh c xs
-fresh_free c x xs h = fresh_same x (remember c x) c xs (λ q k. rw k) (once_free x xs h)
-
--- ---- an entry that is written is laid out
-
-pub written : (ws : List ℕ) → dwarf_judged ws ≡ Write → T (dwarf_layout ws)
-unfolding dwarf_judged
-written ws h = let w = only_written (dwarf_layout ws) (dwarf_skipped ws) (dwarf_reach ws) 6 h in w.0
-
--- ---- the first row's start
-
-pub first_none : (ws : List ℕ) → row_count ws ≡ 0 → 0 ≡ first_start (rows ws)
-unfolding rows rows_from first_start
-first_none ws e = rw e
-
-pub first_some : (ws : List ℕ) → 0 < row_count ws → wide ws 7 ≡ first_start (rows ws)
-unfolding rows first_start
-first_some ws h = rw (rows_step ws (row_count ws) 7 h)

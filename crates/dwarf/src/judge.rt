@@ -1,16 +1,18 @@
 // What becomes of a DWARF entry: refused by 4, skipped, refused by 6, or written.
-ghost use Rattle.std.specs.Prelude.{◌≡◌, cond, [], ◌^◌, ◌<◌, ◌≤◌, get_or, length, take, T, eqb, leb, ltb};
-ghost use Rattle.dwarf.specs.Dwarf.{rules_from, rows, registers, member, once, rule_fits, rules_fit, row_fits, rows_fit, head_fits, dwarf_layout, dwarf_skipped, any_below, dwarf_reach, dwarf_judged, rules_of, distinct};
-ghost use Rattle.dwarf.specs.Cache.{first_in, behind, Known};
+ghost use Rattle.std.specs.Prelude.{◌≡◌, cond, [], ◌+◌, ◌^◌, ◌<◌, ◌≤◌, get_or, ◌∷◌, false, eqb, leb, ltb, MatchResult};
+ghost use Rattle.std.specs.List.{list_all};
+ghost use Rattle.refusal.specs.declared.Refusal.TheVariants.{Layout};
+ghost use Rattle.dwarf.specs.Dwarf.{rows, registers, member, once, row_fits, rows_fit, head_fits, dwarf_layout, dwarf_skipped, dwarf_reach, dwarf_judged, any_below, rules_of, distinct};
+ghost use Rattle.dwarf.specs.Cache.{rules_left, rows_left, fits, Known};
 
 use crate::body::{
-    ALL_ONES, CFA_EXPRESSION, CFA_KIND_AT, CFA_REGISTER, CFA_REGISTER_AT, FAMILY_AT,
-    INITIAL_ADDRESS_AT, KIND_AT, LOAD_ADDRESS_AT, OTHER, REGISTER, REGISTER_VALUES,
-    RETURN_REGISTER_AT, ROW_COUNT_AT, ROWS_AT, RULE_COUNT_AT, RULE_WORDS, RULES_AT, VALUE_AT,
-    first_start, last_end, word64,
+    ALL_ONES, Body, CFA_EXPRESSION, CFA_KIND_AT, CFA_REGISTER, CFA_REGISTER_AT, FAMILY_AT,
+    INITIAL_ADDRESS_AT, OTHER, REGISTER, REGISTER_VALUES, RETURN_REGISTER_AT, ROW_COUNT_AT,
+    ROWS_AT, RULE_COUNT_AT, RULE_WORDS, RULES_AT, Rows, Rules, word64,
 };
-use crate::{Met, Registers};
-use entry::{Judged, both, refusal, word};
+use crate::{RegisterRule, Registers};
+use entry::{Fate, word};
+use refusal::Refusal;
 
 // The largest that a body may have (docs/BOOK.md).
 const MOST_FAMILY: u32 = 10;
@@ -39,62 +41,30 @@ fn kind_fits(kind: u32, value: u64) -> bool
     kind <= OTHER
 }
 
-fn rule_fits(body: &[u32], a: usize) -> bool
-    requires { a < 2 ^ 21 }
-    ensures { result ≡ rule_fits body.now a }
+fn rule_fits(rule: RegisterRule) -> bool
+    ensures { result ≡ fits rule }
 {
-    if REGISTERS <= word(body, a) {
-        return false;
-    }
-    let kind = word(body, a + KIND_AT);
-    kind_fits(kind, word64(body, a + VALUE_AT))
+    (rule.register < REGISTERS) & kind_fits(rule.kind, rule.value)
 }
 
-fn rules_fit(body: &[u32], from: usize, n: usize) -> bool
-    requires { (from < 2 ^ 20) × (n ≤ 64) }
-    ensures { result ≡ rules_fit body.now n from }
+fn rules_fit(mut rules: Rules) -> bool
+    ensures { result ≡ list_all fits (rules_left rules.entry) }
 {
-    let mut a = from;
-    let mut k = n;
-    while 0 < k {
-        if !rule_fits(body, a) {
-            return false;
-        }
-        a += RULE_WORDS;
-        k -= 1;
-    }
-    true
+    rules.all(|rule| rule_fits(rule))
 }
 
-// Whether n rules from here on name a register.
-fn names_register(body: &[u32], from: usize, n: usize, register: u32) -> bool
-    requires { (from < 2 ^ 21) × (n ≤ 64) }
-    ensures { result ≡ member register (registers (rules_from body.now n from)) }
+fn names_register(mut rules: Rules, register: u32) -> bool
+    ensures { result ≡ member register (registers (rules_left rules.entry)) }
 {
-    let mut a = from;
-    let mut k = n;
-    while 0 < k {
-        if word(body, a) == register {
-            return true;
-        }
-        a += RULE_WORDS;
-        k -= 1;
-    }
-    false
+    rules.any(|rule| rule.register == register)
 }
 
 // No register twice.
-fn named_once(body: &[u32], from: usize, n: usize) -> bool
-    requires { (from < 2 ^ 20) × (n ≤ 64) }
-    ensures { result ≡ once (registers (rules_from body.now n from)) }
+fn named_once(mut rules: Rules) -> bool
+    ensures { result ≡ once (registers (rules_left rules.entry)) }
 {
-    let mut a = from;
-    let mut k = n;
-    while 0 < k {
-        let register = word(body, a);
-        a += RULE_WORDS;
-        k -= 1;
-        if names_register(body, a, k, register) {
+    while let Some(rule) = rules.next() {
+        if names_register(rules, rule.register) {
             return false;
         }
     }
@@ -110,66 +80,40 @@ fn cfa_fits(kind: u32, register: u32) -> bool
     kind == CFA_EXPRESSION
 }
 
-fn row_fits(body: &[u32], a: usize) -> bool
+fn row_fits(words: &[u32], a: usize) -> bool
     requires { a < 2 ^ 19 }
-    ensures { result ≡ row_fits body.now a }
+    ensures { result ≡ row_fits words.now a }
 {
-    if !cfa_fits(word(body, a + CFA_KIND_AT), word(body, a + CFA_REGISTER_AT)) {
+    let kind = word(words, a + CFA_KIND_AT);
+    if !cfa_fits(kind, word(words, a + CFA_REGISTER_AT)) {
         return false;
     }
-    let n = word(body, a + RULE_COUNT_AT);
+    let n = word(words, a + RULE_COUNT_AT);
     if MOST_RULES < n {
         return false;
     }
-    if !rules_fit(body, a + RULES_AT, n as usize) {
+    let rules = Rules::new(words, a + RULES_AT, n as usize);
+    if !rules_fit(rules) {
         return false;
     }
-    named_once(body, a + RULES_AT, n as usize)
+    named_once(rules)
 }
 
-fn rows_fit(body: &[u32]) -> bool
-    requires { get_or body.now 6 0 ≤ 1024 }
-    ensures { result ≡ rows_fit body.now (get_or body.now 6 0) 7 }
+fn rows_fit(words: &[u32]) -> bool
+    requires { get_or words.now 6 0 ≤ 1024 }
+    ensures { result ≡ rows_fit words.now (get_or words.now 6 0) 7 }
 {
     let mut a: usize = ROWS_AT;
-    let mut m = word(body, ROW_COUNT_AT) as usize;
-    while 0 < m {
-        if !row_fits(body, a) {
+    for _ in 0..word(words, ROW_COUNT_AT) {
+        if !row_fits(words, a) {
             return false;
         }
-        a = a + RULES_AT + RULE_WORDS * word(body, a + RULE_COUNT_AT) as usize;
-        m -= 1;
+        a = a + RULES_AT + RULE_WORDS * word(words, a + RULE_COUNT_AT) as usize;
     }
-    a == body.len()
+    a == words.len()
 }
 
 // ---- refusal 4: the registers of a body
-
-// The place of a register among the first n, or n.
-pub(crate) fn place(registers: &[u32], n: usize, r: u32) -> usize
-    requires { n ≤ length registers.now }
-    ensures { result ≡ first_in (take n registers.now) r }
-{
-    let mut i = 0;
-    while i < n {
-        if registers[i] == r {
-            return i;
-        }
-        i += 1;
-    }
-    i
-}
-
-// How many registers there are once place p of n is taken.
-pub(crate) fn count_behind(n: usize, p: usize) -> usize
-    requires { n ≤ 64 }
-    ensures { result ≡ behind n p }
-{
-    if p == n {
-        return n + 1;
-    }
-    n
-}
 
 impl Registers {
     fn start() -> Registers
@@ -180,148 +124,135 @@ impl Registers {
             count: 0,
         }
     }
+
+    // Whether there was room for a register.
+    fn meet(&mut self, register: u32) -> bool
+        ensures { Known self.old (register ∷ []) self.new result }
+    {
+        let count = self.count;
+        if self.number[..count].contains(&register) {
+            return true;
+        }
+        if count == MOST_REGISTERS {
+            return false;
+        }
+        self.number[count] = register;
+        self.count = count + 1;
+        true
+    }
 }
 
-fn meet_rules(body: &[u32], from: usize, n: usize, before: Registers) -> Met
-    requires { (from < 2 ^ 20) × (n ≤ 64) × (before.count ≤ 64) }
-    ensures { Known before (registers (rules_from body.now n from)) result }
+// Whether there was room for a row's registers.
+fn meet_rules(rules: Rules, met: &mut Registers) -> bool
+    ensures { Known met.old (registers (rules_left rules.entry)) met.new result }
 {
-    let mut met = before;
-    let mut a = from;
-    let mut k = n;
-    while 0 < k {
-        let register = word(body, a);
-        let held = met.count;
-        let q = place(&met.number, held, register);
-        if MOST_REGISTERS <= q {
-            return Met {
-                registers: met,
-                over: true,
-            };
+    for rule in rules {
+        if !met.meet(rule.register) {
+            return false;
         }
-        met.number[q] = register;
-        met.count = count_behind(held, q);
-        a += RULE_WORDS;
-        k -= 1;
     }
-    Met {
-        registers: met,
-        over: false,
-    }
+    true
 }
 
 // At most 64 registers in all.
-fn registers_fit(body: &[u32]) -> bool
-    requires { (get_or body.now 6 0 ≤ 1024) × T (rows_fit body.now (get_or body.now 6 0) 7) }
-    ensures { result ≡ leb (distinct [] (registers (rules_of (rows body.now)))) 64 }
+fn registers_fit(rows: Rows) -> bool
+    ensures { result ≡ leb (distinct [] (registers (rules_of (rows_left rows.entry)))) 64 }
 {
-    let mut registers = Registers::start();
-    let mut a: usize = ROWS_AT;
-    let mut m = word(body, ROW_COUNT_AT) as usize;
-    while 0 < m {
-        let n = word(body, a + RULE_COUNT_AT) as usize;
-        let met = meet_rules(body, a + RULES_AT, n, registers);
-        if met.over {
+    let mut met = Registers::start();
+    for row in rows {
+        if !meet_rules(row.rules(), &mut met) {
             return false;
         }
-        registers = met.registers;
-        a = a + RULES_AT + RULE_WORDS * n;
-        m -= 1;
     }
     true
 }
 
 // ---- refusal 4: all of it
 
-fn head_fits(body: &[u32]) -> bool
-    ensures { result ≡ head_fits body.now }
+fn head_fits(words: &[u32]) -> bool
+    ensures { result ≡ head_fits words.now }
 {
-    if MOST_FAMILY < word(body, FAMILY_AT) {
+    if MOST_FAMILY < word(words, FAMILY_AT) {
         return false;
     }
-    if REGISTERS <= word(body, RETURN_REGISTER_AT) {
+    if REGISTERS <= word(words, RETURN_REGISTER_AT) {
         return false;
     }
-    word(body, ROW_COUNT_AT) <= MOST_ROWS
+    word(words, ROW_COUNT_AT) <= MOST_ROWS
 }
 
 // Refusal 4 does not apply: ranges, and exactly the words that the counts demand.
-fn layout(body: &[u32]) -> bool
-    ensures { result ≡ dwarf_layout body.now }
+fn layout(words: &[u32]) -> bool
+    ensures { result ≡ dwarf_layout words.now }
 {
-    if !head_fits(body) {
+    if !head_fits(words) {
         return false;
     }
-    if !rows_fit(body) {
+    if !rows_fit(words) {
         return false;
     }
     // With so few words behind the rows' own there are at most 64 rules.
-    let rows = word(body, ROW_COUNT_AT) as usize;
-    if body.len() <= FEW_WORDS + RULES_AT * rows {
+    let count = word(words, ROW_COUNT_AT) as usize;
+    if words.len() <= FEW_WORDS + RULES_AT * count {
         return true;
     }
-    registers_fit(body)
+    registers_fit(Rows::new(words))
 }
 
-// ---- skipping and refusal 6
-
-fn skipped(body: &[u32]) -> bool
-    ensures { result ≡ dwarf_skipped body.now }
-{
-    if word64(body, INITIAL_ADDRESS_AT) == ALL_ONES {
-        return true;
+impl<'a> Body<'a> {
+    // The body of these words, unless refusal 4 applies.
+    pub(crate) fn read(words: &'a [u32]) -> Result<Body<'a>, Refusal>
+        ensures { MatchResult result (λ b. b.words.now ≡ words.now) (λ r. (r ≡ Layout) × (dwarf_layout words.now ≡ false)) }
+    {
+        if !layout(words) {
+            return Err(Refusal::Layout);
+        }
+        Ok(Body { words })
     }
-    if word(body, ROW_COUNT_AT) == 0 {
-        return true;
-    }
-    first_start(body) < word64(body, LOAD_ADDRESS_AT)
-}
 
-// A row that is not at the first start and starts below load.
-fn any_below(body: &[u32], first: u64, load: u64) -> bool
-    requires { T (dwarf_layout body.now) }
-    ensures { result ≡ any_below first load (rows body.now) }
-{
-    let mut a: usize = ROWS_AT;
-    let mut m = word(body, ROW_COUNT_AT) as usize;
-    while 0 < m {
-        let start = word64(body, a);
-        if both(start != first, start < load) {
+    // ---- skipping and refusal 6
+
+    fn skipped(self) -> bool
+        ensures { result ≡ dwarf_skipped self.entry.words.now }
+    {
+        if word64(self.words, INITIAL_ADDRESS_AT) == ALL_ONES {
             return true;
         }
-        a = a + RULES_AT + RULE_WORDS * word(body, a + RULE_COUNT_AT) as usize;
-        m -= 1;
+        if word(self.words, ROW_COUNT_AT) == 0 {
+            return true;
+        }
+        self.first_start() < self.load()
     }
-    false
-}
 
-// Refusal 6 does not apply: no row ends before the first start or starts below load.
-fn reach(body: &[u32]) -> bool
-    requires { T (dwarf_layout body.now) }
-    ensures { result ≡ dwarf_reach body.now }
-{
-    let first = first_start(body);
-    if last_end(body) < first {
-        return false;
+    // A row that is not at the first start and starts below load.
+    fn any_below(self, first: u64, load: u64) -> bool
+        ensures { result ≡ any_below first load (rows self.entry.words.now) }
+    {
+        let mut rows = self.rows();
+        rows.any(|row| (row.start() != first) & (row.start() < load))
     }
-    if any_below(body, first, word64(body, LOAD_ADDRESS_AT)) {
-        return false;
-    }
-    true
-}
 
-// What becomes of an entry: refused by 4 or 6, skipped, or written.
-pub(crate) fn judge(body: &[u32]) -> Judged
-    ensures { result ≡ dwarf_judged body.now }
-{
-    if !layout(body) {
-        return Judged::Refuse(refusal::LAYOUT);
+    // Refusal 6 does not apply: no row ends before the first start or starts below load.
+    fn reach(self) -> bool
+        ensures { result ≡ dwarf_reach self.entry.words.now }
+    {
+        let first = self.first_start();
+        if self.last_end() < first {
+            return false;
+        }
+        !self.any_below(first, self.load())
     }
-    if skipped(body) {
-        return Judged::Skip;
+
+    // What becomes of its entry: skipped, refused by 6, or written.
+    pub(crate) fn judge(self) -> Result<Fate, Refusal>
+        ensures { result ≡ dwarf_judged self.entry.words.now }
+    {
+        if self.skipped() {
+            return Ok(Fate::Skip);
+        }
+        if !self.reach() {
+            return Err(Refusal::Reach);
+        }
+        Ok(Fate::Write)
     }
-    if !reach(body) {
-        return Judged::Refuse(refusal::REACH);
-    }
-    Judged::Write
 }

@@ -10,15 +10,16 @@ mod body;
 mod judge;
 mod write;
 
+ghost use Rattle.std.specs.Prelude.{◌≤◌};
 ghost use Rattle.entry.specs.Entry.{Processed};
 ghost use Rattle.dwarf.specs.Dwarf.{dwarf_entry};
 
-use entry::{Judged, Last, Wrote, refusal};
-use judge::judge;
-use rules::{Form, Rule};
+use body::Body;
+use entry::{Fate, Last, Wrote};
+use refusal::Refusal;
 use write::put_entry;
 
-// A register's rule in a row; the value is 0 where the kind uses none.
+// A register's rule in a row; the value is 0 where the kind uses none. Kind and value stay numbers: document 01's form keeps them in arrays.
 #[derive(Clone, Copy)]
 pub struct RegisterRule {
     pub register: u32,
@@ -26,8 +27,8 @@ pub struct RegisterRule {
     pub value: u64,
 }
 
-// A row's CFA: register + offset (kind 0), or an expression (kind 1), with register and offset 0.
-#[derive(Clone, Copy)]
+// A row's CFA: register + offset (kind 0), or an expression (kind 1), with register and offset 0. The kind stays a number, as in a rule.
+#[derive(Clone, Copy, PartialEq, Eq)]
 pub struct CfaRule {
     pub kind: u32,
     pub register: u32,
@@ -44,18 +45,12 @@ pub struct Fde {
     pub length: u64,
 }
 
-// Registers met, with their count.
+// Registers met, at most 64, with their count: an array, since there is no heap.
 #[derive(Clone, Copy)]
 pub struct Registers {
     pub number: [u32; 64],
     pub count: usize,
-}
-
-// The registers met, and whether there were more than 64.
-#[derive(Clone, Copy)]
-pub struct Met {
-    pub registers: Registers,
-    pub over: bool,
+    pub ghost few: { count ≤ 64 },
 }
 
 // At most 64 registers, with their count: the rule last seen of each.
@@ -65,39 +60,24 @@ pub struct RuleCache {
     pub kind: [u32; 64],
     pub value: [u64; 64],
     pub count: usize,
+    pub ghost few: { count ≤ 64 },
 }
 
 // What goes from row to row: the CFA last seen, if any, and the rules last seen.
 #[derive(Clone, Copy)]
 pub struct RowState {
-    pub cfa_seen: bool,
-    pub cfa: CfaRule,
+    pub cfa: Option<CfaRule>,
     pub rules: RuleCache,
 }
 
-// The form of a rule, if it has one.
-#[derive(Clone, Copy)]
-pub struct Formed {
-    pub some: bool,
-    pub form: Form,
-}
-
-// A rule as it is written, if it is.
-#[derive(Clone, Copy)]
-pub struct Formatted {
-    pub some: bool,
-    pub rule: Rule,
-}
-
-// A row's rules read once: what is seen after them, whether anything is written, and whether the return register's rule changed.
+// A row's rules read once: whether anything is written, and whether the return register's rule changed.
 #[derive(Clone, Copy)]
 pub struct RowScan {
-    pub rules: RuleCache,
     pub written: bool,
     pub ra_written: bool,
 }
 
-// Where the text goes on, and what is last seen there.
+// Where the text goes on, and what is last seen there; a pair's fields would have no names.
 #[derive(Clone, Copy)]
 pub struct Placed {
     pub at: usize,
@@ -105,24 +85,20 @@ pub struct Placed {
 }
 
 // One entry: judged, and put at `at` where it is written. It leaves to the next what was left to it.
-pub fn process_fde(out: &mut [u8], at: usize, body: &[u32], last: Last) -> Wrote
+pub fn process_fde(
+    out: &mut [u8],
+    at: usize,
+    body: &[u32],
+    last: Option<Last>,
+) -> Result<Wrote, Refusal>
     ensures { Processed (dwarf_entry last body.now) out.old at out.new result }
 {
-    let judged = judge(body);
-    match judged {
-        Judged::Refuse(number) => Wrote { number, at, last },
-        Judged::Skip => Wrote {
-            number: refusal::NONE,
-            at,
-            last,
-        },
-        Judged::Write => {
-            let p = put_entry(out, at, body);
-            Wrote {
-                number: refusal::NONE,
-                at: p,
-                last,
-            }
+    let body = Body::read(body)?;
+    match body.judge()? {
+        Fate::Skip => Ok(Wrote { at, last }),
+        Fate::Write => {
+            let at = put_entry(out, at, body);
+            Ok(Wrote { at, last })
         }
     }
 }

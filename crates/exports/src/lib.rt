@@ -2,10 +2,14 @@
 #![tactic(auto)]
 
 ghost use Rattle.std.specs.Prelude.{◌≡◌, length, set};
+ghost use Rattle.refusal.specs.Refusal.{answer_number};
+ghost use Rattle.fill.specs.Fill.Laws.{count as filled_by};
 ghost use Rattle.translate.specs.Outcome.{outcome};
 ghost use Rattle.unwind_info.specs.UnwindInfo.{decoded};
 ghost use Rattle.unwind_codes.specs.UnwindCodes.{decoded as decoded_codes};
 ghost use Rattle.exports.specs.Exports.{Exported, FillExported};
+
+use refusal::{Refusal, answer_number};
 
 // A book into STACK lines: the number is returned; entries and length are stored where `counts` has room for two.
 #[unsafe(no_mangle)]
@@ -19,21 +23,22 @@ pub extern "C" fn stacklines_translate(
     ensures { Exported (outcome book.now limit work.old text.old) counts.old work.new text.new counts.new result }
 {
     let r = translate::translate(book, limit, work, text);
-    if counts.len() < 2 {
-        return r.number;
+    if 2 <= counts.len() {
+        counts[0] = r.entries as u64;
+        counts[1] = r.length as u64;
     }
-    counts[0] = r.entries as u64;
-    counts[1] = r.length as u64;
-    r.number
+    answer_number(r.answer)
 }
 
-// What a call filled, stored where `count` has a place.
-fn store_count(count: &mut [u64], filled: usize)
-    ensures { count.new ≡ set count.old 0 filled }
+// What a call filled, stored where `count` has a place; the number is handed back.
+fn counted(answer: Result<usize, Refusal>, count: &mut [u64]) -> u32
+    ensures number { result ≡ answer_number answer }
+    ensures stored { count.new ≡ set count.old 0 (filled_by answer) }
 {
-    if 0 < count.len() {
-        count[0] = filled as u64;
+    if let Some(place) = count.first_mut() {
+        *place = answer.unwrap_or(0) as u64;
     }
+    answer_number(answer)
 }
 
 // The unwind bytes of an x64 function into the words of its body: the number is returned, and the words filled are counted.
@@ -48,9 +53,8 @@ pub extern "C" fn stacklines_decode_x64(
 ) -> u32
     ensures { FillExported (decoded bytes.now begin end info_address (length body.old)) body.old count.old body.new count.new result }
 {
-    let r = unwind_info::decode_x64(bytes, begin, end, info_address, body);
-    store_count(count, r.filled);
-    r.number
+    let answer = unwind_info::decode_x64(bytes, begin, end, info_address, body);
+    counted(answer, count)
 }
 
 // The unwind codes of an ARM64 function into the words of its body: the number is returned, and the words filled are counted.
@@ -64,7 +68,6 @@ pub extern "C" fn stacklines_decode_arm64(
 ) -> u32
     ensures { FillExported (decoded_codes bytes.now address size (length body.old)) body.old count.old body.new count.new result }
 {
-    let decoded = unwind_codes::decode_arm64(bytes, address, size, body);
-    store_count(count, decoded.filled);
-    decoded.number
+    let answer = unwind_codes::decode_arm64(bytes, address, size, body);
+    counted(answer, count)
 }

@@ -1,6 +1,7 @@
 -- What a call comes to that fills lent room (document 02, request 1): its number, 0 if done, and what is filled.
-use Rattle.std.specs.Prelude.{◌≡◌, cond, List, [], ◌++◌, ℕ, length, drop, ltb}
-use Rattle.fill.specs.declared.Filled.{Filled}
+use Rattle.std.specs.Prelude.{◌≡◌, cond, List, [], ◌++◌, ℕ, Result, MatchResult, length, drop, ltb}
+use Rattle.refusal.specs.declared.Refusal.{Refusal}
+use Rattle.refusal.specs.Refusal.{number as number_of}
 pub mod Laws
 
 -- a number, and the words or places that are filled
@@ -17,8 +18,18 @@ module _ {A : Type 0} where
   abbrev pub roomed : ℕ → List A → Fill A
   roomed room xs = cond (ltb room (length xs)) (refused 9) (record { number = 0; placed = xs })
 
-  -- the contract of such a call on the room d: number and count are returned, what is filled stands in front, the rest is as it was
-  pub record Fills (f : Fill A) (d d' : List A) (r : Filled) : Type 0 where
-    pub number_is : r.number ≡ f.number
-    pub filled_is : r.filled ≡ length f.placed
+  -- all of it was filled: what is filled stands in front, the rest of the room is as it was
+  pub record Filled (f : Fill A) (d d' : List A) (n : ℕ) : Type 0 where
+    pub number_is : f.number ≡ 0
+    pub filled_is : n ≡ length f.placed
     pub room_is : d' ≡ f.placed ++ drop (length f.placed) d
+
+  -- it was turned away, and the room is as it was
+  pub record Turned (f : Fill A) (d d' : List A) (r : Refusal) : Type 0 where
+    pub number_is : number_of r ≡ f.number
+    pub none_is : f.placed ≡ []
+    pub room_is : d' ≡ d
+
+  -- the contract of such a call on the room d
+  abbrev pub Fills : Fill A → List A → List A → Result ℕ Refusal → Type 0
+  Fills f d d' r = MatchResult r (Filled f d d') (Turned f d d')

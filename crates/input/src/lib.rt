@@ -9,17 +9,11 @@ use std::io::Read;
 
 const MOST_BYTES: usize = 65536;
 
-fn wide(x: u8) -> u32
-    ensures { (result ≡ x) × (result < 256) }
-{
-    x as u32
-}
-
 // The word at four bytes.
 fn word(a: u8, b: u8, c: u8, d: u8) -> u32
     ensures { result ≡ word_of a b c d }
 {
-    wide(a) + 256 * wide(b) + 65536 * wide(c) + 16777216 * wide(d)
+    u32::from_le_bytes([a, b, c, d])
 }
 
 fn word_count(bytes: usize, room: usize) -> usize
@@ -31,10 +25,7 @@ fn word_count(bytes: usize, room: usize) -> usize
     if bytes % 4 != 0 {
         return 0;
     }
-    if room < bytes / 4 {
-        return room;
-    }
-    bytes / 4
+    room.min(bytes / 4)
 }
 
 // The words of the bytes, as many as out takes, and their number; none, which is refused 3, where the bytes are no book.
@@ -45,15 +36,13 @@ pub fn words(bytes: &[u8], out: &mut [u32]) -> usize
     ensures read { Read out.old out.new result }
 {
     let n = word_count(bytes.len(), out.len());
-    let mut i = 0;
-    while i < n {
+    for i in 0..n {
         out[i] = word(
             bytes[4 * i],
             bytes[4 * i + 1],
             bytes[4 * i + 2],
             bytes[4 * i + 3],
         );
-        i += 1;
     }
     n
 }

@@ -19,8 +19,17 @@ const LETTERS: u32 = 4;
 // What stands for a number far beyond these.
 const FAR: u32 = 0xffff_ffff;
 
-// The first `n` bytes as a line; nothing where there are fewer.
-fn show(rt: &impl Print, line: &[u8], n: usize) -> io::Result<()> {
+// A line: the word, and what `put` puts behind it; nothing where the line is longer than its room.
+fn show<F: FnOnce(&mut [u8], usize) -> usize>(
+    rt: &impl Print,
+    word: &[u8],
+    put: F,
+) -> io::Result<()>
+    requires { F.IsAlwaysCallable put }
+{
+    let mut line = [0u8; 128];
+    let p = put_bytes(&mut line, 0, word);
+    let n = put(&mut line, p);
     if n <= line.len() {
         rt.write_all(&line[..n])?;
         rt.write_all(b"\n")?;
@@ -30,55 +39,38 @@ fn show(rt: &impl Print, line: &[u8], n: usize) -> io::Result<()> {
 
 // ---- names
 
-fn cfi(out: &mut [u8], family: u32, register: u32) -> usize {
-    let p = put_bytes(out, 0, b"cfi ");
-    let p = put_decimal(out, p, family as u64);
-    let p = put_byte(out, p, b' ');
-    let p = put_decimal(out, p, register as u64);
-    let p = put_byte(out, p, b' ');
-    names::put_cfi_name(out, p, family, register)
-}
-
-fn pe(out: &mut [u8], register: u32) -> usize {
-    let p = put_bytes(out, 0, b"pe ");
-    let p = put_decimal(out, p, register as u64);
-    let p = put_byte(out, p, b' ');
-    names::put_pe_name(out, p, register)
-}
-
-fn arm64(out: &mut [u8], letter: u32, register: u32) -> usize {
-    let p = put_bytes(out, 0, b"arm64 ");
-    let p = put_decimal(out, p, letter as u64);
-    let p = put_byte(out, p, b' ');
-    let p = put_decimal(out, p, register as u64);
-    let p = put_byte(out, p, b' ');
-    names::put_arm64_name(out, p, letter, register)
+fn put_number(out: &mut [u8], at: usize, n: u32) -> usize {
+    let p = put_decimal(out, at, n as u64);
+    put_byte(out, p, b' ')
 }
 
 fn show_cfi(rt: &impl Print, family: u32, register: u32) -> io::Result<()> {
-    let name = names::cfi_register_name(family, register);
-    if 0 < name.len {
-        let mut line = [0u8; 64];
-        let n = cfi(&mut line, family, register);
-        show(rt, &line, n)?;
+    if names::cfi_register_name(family, register).len == 0 {
+        return Ok(());
     }
-    Ok(())
+    show(rt, b"cfi ", |out, p| {
+        let p = put_number(out, p, family);
+        let p = put_number(out, p, register);
+        names::put_cfi_name(out, p, family, register)
+    })
 }
 
 fn show_pe(rt: &impl Print, register: u32) -> io::Result<()> {
-    let name = names::pe_register_name(register);
-    if 0 < name.len {
-        let mut line = [0u8; 64];
-        let n = pe(&mut line, register);
-        show(rt, &line, n)?;
+    if names::pe_register_name(register).len == 0 {
+        return Ok(());
     }
-    Ok(())
+    show(rt, b"pe ", |out, p| {
+        let p = put_number(out, p, register);
+        names::put_pe_name(out, p, register)
+    })
 }
 
 fn show_arm64(rt: &impl Print, letter: u32, register: u32) -> io::Result<()> {
-    let mut line = [0u8; 64];
-    let n = arm64(&mut line, letter, register);
-    show(rt, &line, n)
+    show(rt, b"arm64 ", |out, p| {
+        let p = put_number(out, p, letter);
+        let p = put_number(out, p, register);
+        names::put_arm64_name(out, p, letter, register)
+    })
 }
 
 fn show_family(rt: &impl Print, family: u32) -> io::Result<()> {
@@ -106,43 +98,18 @@ fn show_pe_names(rt: &impl Print) -> io::Result<()> {
 
 fn show_arm64_names(rt: &impl Print) -> io::Result<()> {
     for letter in 0..LETTERS {
-        show_arm64(rt, letter, 0)?;
-        show_arm64(rt, letter, 9)?;
-        show_arm64(rt, letter, 30)?;
-        show_arm64(rt, letter, 255)?;
+        for register in [0, 9, 30, 255] {
+            show_arm64(rt, letter, register)?;
+        }
     }
     show_arm64(rt, FAR, FAR)
 }
 
 // ---- numbers
 
-fn hex(out: &mut [u8], x: u64) -> usize {
-    let p = put_bytes(out, 0, b"hex ");
-    put_hex(out, p, x)
-}
-
-fn decimal(out: &mut [u8], x: u64) -> usize {
-    let p = put_bytes(out, 0, b"decimal ");
-    put_decimal(out, p, x)
-}
-
-fn signed(out: &mut [u8], x: i64) -> usize {
-    let p = put_bytes(out, 0, b"signed ");
-    digits::put_signed(out, p, x)
-}
-
 fn show_number(rt: &impl Print, x: u64) -> io::Result<()> {
-    let mut line = [0u8; 64];
-    let n = hex(&mut line, x);
-    show(rt, &line, n)?;
-    let n = decimal(&mut line, x);
-    show(rt, &line, n)
-}
-
-fn show_signed(rt: &impl Print, x: i64) -> io::Result<()> {
-    let mut line = [0u8; 64];
-    let n = signed(&mut line, x);
-    show(rt, &line, n)
+    show(rt, b"hex ", |out, p| put_hex(out, p, x))?;
+    show(rt, b"decimal ", |out, p| put_decimal(out, p, x))
 }
 
 // A number and its neighbours; beside 0 stands the largest.
@@ -154,27 +121,21 @@ fn show_around(rt: &impl Print, x: u64) -> io::Result<()> {
 
 // The powers of 2, and so those of 16, up to 2^63.
 fn show_powers_of_2(rt: &impl Print) -> io::Result<()> {
-    let mut x: u64 = 1;
-    while x < 0x8000_0000_0000_0000 {
-        show_around(rt, x)?;
-        x *= 2;
+    for k in 0..64u32 {
+        show_around(rt, 1 << k)?;
     }
-    show_around(rt, x)
+    Ok(())
 }
 
 // The powers of 10 up to 10^19, the last below 2^64.
 fn show_powers_of_10(rt: &impl Print) -> io::Result<()> {
-    let mut x: u64 = 1;
-    while x <= 1_000_000_000_000_000_000 {
-        show_around(rt, x)?;
-        x *= 10;
+    for k in 0..20 {
+        show_around(rt, 10u64.pow(k))?;
     }
-    show_around(rt, x)
+    Ok(())
 }
 
-const SIGNED_COUNT: usize = 28;
-
-const SIGNED: [i64; SIGNED_COUNT] = [
+const SIGNED: [i64; 28] = [
     0,
     1,
     -1,
@@ -206,54 +167,42 @@ const SIGNED: [i64; SIGNED_COUNT] = [
 ];
 
 fn show_signed_numbers(rt: &impl Print) -> io::Result<()> {
-    for i in 0..SIGNED_COUNT {
-        show_signed(rt, SIGNED[i])?;
+    for x in SIGNED {
+        show(rt, b"signed ", |out, p| digits::put_signed(out, p, x))?;
     }
     Ok(())
 }
 
-// ---- measures
-
-fn measured(out: &mut [u8], n: usize) -> usize {
-    let p = put_bytes(out, 0, b"measured ");
-    put_decimal(out, p, n as u64)
-}
-
 // How long the number is, written where there is room for one byte.
 fn show_measured(rt: &impl Print, x: u64) -> io::Result<()> {
-    let mut short = [0u8; 1];
-    let length = put_hex(&mut short, 0, x);
-    let mut line = [0u8; 64];
-    let n = measured(&mut line, length);
-    show(rt, &line, n)
+    let length = put_hex(&mut [0u8; 1], 0, x);
+    show(
+        rt,
+        b"measured ",
+        |out, p| put_decimal(out, p, length as u64),
+    )
 }
 
 // ---- rules
 
-fn rule(out: &mut [u8], name: Name, form: Form) -> usize {
-    let p = put_bytes(out, 0, b"rule");
-    let rule = Rule { name, form };
-    rules::put_rule(out, p, rule)
-}
-
-fn show_rule(rt: &impl Print, name: Name, form: Form) -> io::Result<()> {
-    let mut line = [0u8; 128];
-    let n = rule(&mut line, name, form);
-    show(rt, &line, n)
-}
-
 // The six forms.
 fn show_forms(rt: &impl Print, name: Name, reg: Reg, x: i64) -> io::Result<()> {
-    show_rule(rt, name, Form::Register(reg))?;
-    show_rule(rt, name, Form::RegisterPlus(reg, x))?;
-    show_rule(rt, name, Form::AtRegisterPlus(reg, x))?;
-    show_rule(rt, name, Form::CfaPlus(x))?;
-    show_rule(rt, name, Form::AtCfaPlus(x))?;
-    show_rule(rt, name, Form::AtCfaMinus(x))
+    for form in [
+        Form::Register(reg),
+        Form::RegisterPlus(reg, x),
+        Form::AtRegisterPlus(reg, x),
+        Form::CfaPlus(x),
+        Form::AtCfaPlus(x),
+        Form::AtCfaMinus(x),
+    ] {
+        show(
+            rt,
+            b"rule",
+            |out, p| rules::put_rule(out, p, Rule { name, form }),
+        )?;
+    }
+    Ok(())
 }
-
-// ".sp", packed
-const SP: u64 = 0x70732e;
 
 fn show_rules(rt: &impl Print) -> io::Result<()> {
     show_forms(rt, rules::cfa_name(), Reg::Pe(4), 48)?;
@@ -271,43 +220,32 @@ fn show_rules(rt: &impl Print) -> io::Result<()> {
         Reg::Arm64(1, 8),
         -9223372036854775808,
     )?;
-    show_forms(rt, names::name_of(SP), Reg::Arm64(2, 255), 2147483647)
+    show_forms(rt, names::name_of(b".sp"), Reg::Arm64(2, 255), 2147483647)
 }
 
 // ---- beginnings of lines
 
-fn init(out: &mut [u8], address: u64, size: u64) -> usize {
-    let p = put_bytes(out, 0, b"init ");
-    lines::put_init(out, p, address, size)
-}
-
-fn later(out: &mut [u8], six: bool, address: u64) -> usize {
-    let p = put_bytes(out, 0, b"later ");
-    lines::put_later(out, p, six, address)
-}
-
-fn stack_info(out: &mut [u8], info: StackInfo, program: bool) -> usize {
-    let p = put_bytes(out, 0, b"win ");
-    let p = lines::put_stack_info(out, p, info, program);
-    put_byte(out, p, b'.')
-}
-
 fn show_init(rt: &impl Print, address: u64, size: u64) -> io::Result<()> {
-    let mut line = [0u8; 128];
-    let n = init(&mut line, address, size);
-    show(rt, &line, n)
+    show(
+        rt,
+        b"init ",
+        |out, p| lines::put_init(out, p, address, size),
+    )
 }
 
 fn show_later(rt: &impl Print, six: bool, address: u64) -> io::Result<()> {
-    let mut line = [0u8; 128];
-    let n = later(&mut line, six, address);
-    show(rt, &line, n)
+    show(
+        rt,
+        b"later ",
+        |out, p| lines::put_later(out, p, six, address),
+    )
 }
 
 fn show_stack_info(rt: &impl Print, info: StackInfo, program: bool) -> io::Result<()> {
-    let mut line = [0u8; 128];
-    let n = stack_info(&mut line, info, program);
-    show(rt, &line, n)
+    show(rt, b"win ", |out, p| {
+        let p = lines::put_stack_info(out, p, info, program);
+        put_byte(out, p, b'.')
+    })
 }
 
 // Nine numbers from `x` on, so that each field differs.

@@ -8,7 +8,7 @@ use digits::put_hex;
 use text::{put_byte, put_bytes};
 
 // An address of an image, relative to its start.
-#[derive(Clone, Copy)]
+#[derive(Clone, Copy, PartialEq, Eq)]
 pub struct Rva(pub u32);
 
 // The numbers of a STACK WIN line, in its order.
@@ -35,7 +35,7 @@ pub fn put_init(out: &mut [u8], at: usize, address: u64, size: u64) -> usize
     put_hex(out, p, size)
 }
 
-// The beginning of a later line; `six` for the six spaces of ARM64 records.
+// The beginning of a later line; `six` for the six spaces of ARM64 records, a flag of the line as in its definition.
 pub fn put_later(out: &mut [u8], at: usize, six: bool, address: u64) -> usize
     ensures { Put out.old at (later_text six address) out.new result }
 {
@@ -57,13 +57,10 @@ fn put_field(out: &mut [u8], at: usize, x: u32) -> usize
 fn put_flag(out: &mut [u8], at: usize, program: bool) -> usize
     ensures { Put out.old at (flag program) out.new result }
 {
-    if program {
-        return put_bytes(out, at, b"1 ");
-    }
-    put_bytes(out, at, b"0 ")
+    put_bytes(out, at, if program { b"1 " } else { b"0 " })
 }
 
-// A STACK WIN line up to its tail; `program` is the flag that a program follows.
+// A STACK WIN line up to its tail; `program` is the flag that a program follows. An array of the numbers and a loop would name each as well.
 pub fn put_stack_info(out: &mut [u8], at: usize, info: StackInfo, program: bool) -> usize
     ensures { Put out.old at (win_text info program) out.new result }
 {

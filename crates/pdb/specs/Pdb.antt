@@ -4,13 +4,14 @@
 --     10 has program, 11 has string table, 12 prolog range count, 13 code range count, 14 program length,
 --     then the prolog ranges, the code ranges and the program's bytes.
 use Rattle.std.specs.Prelude.{ℕ, zero, suc, ◌+◌, ◌-◌, ◌*◌, Bool, true, false, not, cond, ◌&&◌, ◌||◌, List, [], ◌∷◌, ◌++◌, reverse, length, ltb, leb, eqb}
+use Rattle.std.specs.Prelude.{Option, None, Some, Ok, Err}
 use Rattle.text.specs.Text.{ascii}
 use Rattle.text.specs.Tests.{all}
 use Rattle.digits.specs.Digits.{hex, Digits·open}
-use Rattle.entry.specs.declared.Judged.{Judged}
-use Rattle.entry.specs.declared.Judged.TheVariants.{Refuse, Skip, Write}
+use Rattle.refusal.specs.declared.Refusal.TheVariants.{Layout, Reach}
+use Rattle.entry.specs.declared.Fate.TheVariants.{Skip, Write}
 use Rattle.entry.specs.declared.Last.{Last}
-use Rattle.entry.specs.Entry.{Entry, comes_to, word}
+use Rattle.entry.specs.Entry.{Judged, Entry, comes_to, word}
 use Rattle.pdb.specs.declared.Range.{Range}
 
 -- ---- ranges and program from words
@@ -107,16 +108,16 @@ pdb_layout ws = sizes_fit ws && (flags_fit ws && (counts_fit ws && rest_fits ws)
 
 -- what an entry leaves to the next: type, start, code size, prolog size
 unfoldable pub leaves : List ℕ → Last
-leaves ws = record { some = true; ty = word ws 0; start = record { 0 = word ws 1 }; code_size = word ws 2; prolog_size = word ws 3 }
+leaves ws = record { ty = word ws 0; start = record { 0 = word ws 1 }; code_size = word ws 2; prolog_size = word ws 3 }
 
 -- there was a last entry, and the next one has the same
-unfoldable pub repeats : Last → Last → Bool
-repeats last next =
-    last.some
-    && (eqb last.ty next.ty && (eqb last.start.0 next.start.0 && (eqb last.code_size next.code_size && eqb last.prolog_size next.prolog_size)))
+unfoldable pub repeats : Option Last → Last → Bool
+repeats None next = false
+repeats (Some last) next =
+    eqb last.ty next.ty && (eqb last.start.0 next.start.0 && (eqb last.code_size next.code_size && eqb last.prolog_size next.prolog_size))
 
 -- a code size above 7FFFFFFFh, or the same as the last entry not skipped
-unfoldable pub pdb_skipped : Last → List ℕ → Bool
+unfoldable pub pdb_skipped : Option Last → List ℕ → Bool
 pdb_skipped last ws = ltb 2147483647 (word ws 2) || repeats last (leaves ws)
 
 -- ---- refusal 6: code start plus prolog size, and plus code size, at most FFFFFFFFh
@@ -200,12 +201,12 @@ pdb_text ws = cond (contiguous (prologs ws) (codes ws))
 -- ---- one entry: 4, skipping, 6; it leaves its own words to the next where it is written
 
 -- 4, skipping, then 6
-unfoldable pub pdb_judged : Last → List ℕ → Judged
-pdb_judged last ws = cond (pdb_layout ws) (cond (pdb_skipped last ws) Skip (cond (in_reach ws) Write (Refuse 6))) (Refuse 4)
+unfoldable pub pdb_judged : Option Last → List ℕ → Judged
+pdb_judged last ws = cond (pdb_layout ws) (cond (pdb_skipped last ws) (Ok Skip) (cond (in_reach ws) (Ok Write) (Err Reach))) (Err Layout)
 
 -- an entry that is written is the last one for the next
-unfoldable pub pdb_entry : Last → List ℕ → Entry
-pdb_entry last ws = comes_to (pdb_judged last ws) (pdb_text ws) last (leaves ws)
+unfoldable pub pdb_entry : Option Last → List ℕ → Entry
+pdb_entry last ws = comes_to (pdb_judged last ws) (pdb_text ws) last (Some (leaves ws))
 
 -- what to unfold where PDB entries are to compute
 unfoldable pub Pdb·open : Type 0

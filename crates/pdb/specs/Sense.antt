@@ -1,7 +1,7 @@
 -- The sense of a PDB entry (document 01, "Sense"): its WIN lines, each its nine numbers, the flag and the trimmed tail.
 -- With the text's definitions it shares what the body's words hold (its ranges and program) and when a body is skipped; that the two agree is proved
 -- in Sense/Laws.antt.
-use Rattle.std.specs.Prelude.{ℕ, ◌-◌, Bool, false, cond, ◌&&◌, List, [], ◌∷◌, ◌++◌, map, ltb, eqb}
+use Rattle.std.specs.Prelude.{ℕ, ◌-◌, Bool, false, cond, ◌&&◌, List, [], ◌∷◌, ◌++◌, map, ltb, eqb, Option, Some}
 use Rattle.digits.specs.Digits.{hex}
 use Rattle.lines.specs.declared.StackInfo.{StackInfo}
 use Rattle.lines.specs.Lines.{Line, win}
@@ -14,9 +14,9 @@ pub mod Laws
 -- ---- the last earlier body that is not skipped
 
 -- of the bodies before an entry, latest first: type, start, code size and prolog size of the last that is not skipped
-unfoldable pub last_unskipped : List (List ℕ) → Last
+unfoldable pub last_unskipped : List (List ℕ) → Option Last
 last_unskipped [] = no_last
-last_unskipped (b ∷ ds) = cond (pdb_skipped (last_unskipped ds) b) (last_unskipped ds) (leaves b)
+last_unskipped (b ∷ ds) = cond (pdb_skipped (last_unskipped ds) b) (last_unskipped ds) (Some (leaves b))
 
 -- ---- flag and tail
 

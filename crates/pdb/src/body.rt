@@ -8,10 +8,12 @@
 //     5 saved registers, 16 bits  13 code range count, at most 16
 //     6 locals                    14 program length, at most 1,024
 //     7 mark of a max stack       15 prolog ranges, code ranges (start, end), program bytes, one a word
-ghost use Rattle.std.specs.Prelude.{◌≡◌, ◌-◌, ◌^◌, ◌<◌};
-ghost use Rattle.pdb.specs.Pdb.{range_at, has_program, leaves, max_stack};
+ghost use Rattle.std.specs.Prelude.{◌≡◌, T, eqb, unwrap_or};
+ghost use Rattle.entry.specs.Entry.{word as word_of};
+ghost use Rattle.pdb.specs.Pdb.{prologs as prologs_of, codes as codes_of, program as program_of, has_program, pdb_layout, leaves, max_stack};
+ghost use Rattle.pdb.specs.Index.{ranges_of, ranges_in};
 
-use crate::Range;
+use crate::Part;
 use entry::{Last, word};
 use lines::Rva;
 
@@ -49,66 +51,66 @@ pub(crate) const LENGTH_AT: usize = 14;
 // Prolog ranges, code ranges and the program's bytes follow.
 pub(crate) const RANGES_AT: usize = 15;
 
-pub(crate) const RANGE_WORDS: usize = 2;
-
 // A program's bytes are printable ASCII, from a space to a tilde.
 pub(crate) const SPACE: u32 = 32;
 
-// The range whose words start at i.
-#[tactic(auto, unfolding(crate::specs::Pdb::range_at))]
-pub(crate) fn range_at(body: &[u32], i: usize) -> Range
-    requires { i < 2 ^ 32 }
-    ensures { result ≡ range_at body.now i }
-{
-    let start = Rva(word(body, i));
-    let end = Rva(word(body, i + 1));
-    Range { start, end }
+// A body whose layout fits, and what follows its first words.
+#[derive(Clone, Copy)]
+pub(crate) struct Body<'a> {
+    pub words: &'a [u32],
+    pub prologs: &'a [[u32; 2]],
+    pub codes: &'a [[u32; 2]],
+    pub program: &'a [u32],
+    ghost fits: { T (pdb_layout words.now) },
+    ghost prologs_are: { ranges_of prologs.now ≡ prologs_of words.now },
+    ghost codes_are: { ranges_of codes.now ≡ codes_of words.now },
+    ghost program_is: { program.now ≡ program_of words.now },
 }
 
-// The bytes from one address to another.
-pub(crate) fn span(from: Rva, to: Rva) -> u32
-    ensures { result ≡ to.0 - from.0 }
-{
-    if from.0 <= to.0 {
-        return to.0 - from.0;
+impl<'a> Body<'a> {
+    // The ranges of a part.
+    pub(crate) fn ranges(self, part: Part) -> &'a [[u32; 2]]
+        ensures { ranges_of result.now ≡ ranges_in self.entry.words.now part }
+    {
+        match part {
+            Part::Prolog => self.prologs,
+            Part::Code => self.codes,
+        }
     }
-    0
+}
+
+// Whether a mark is there.
+pub(crate) fn marked(words: &[u32], at: usize) -> bool
+    ensures { result ≡ eqb (word_of words.now at) 1 }
+{
+    word(words, at) == 1
 }
 
 // Whether there is a program, and the table that it stands in.
 #[tactic(auto, unfolding(crate::specs::Pdb::has_program))]
-pub(crate) fn has_program(body: &[u32]) -> bool
-    ensures { result ≡ has_program body.now }
+pub(crate) fn has_program(words: &[u32]) -> bool
+    ensures { result ≡ has_program words.now }
 {
-    let program = word(body, PROGRAM_MARK_AT);
-    let table = word(body, TABLE_MARK_AT);
-    if program == 1 {
-        return table == 1;
-    }
-    false
+    marked(words, PROGRAM_MARK_AT) & marked(words, TABLE_MARK_AT)
 }
 
-// The max stack, or 0 where there is none.
+// The max stack, where there is one.
 #[tactic(auto, unfolding(crate::specs::Pdb::max_stack))]
-pub(crate) fn max_stack(body: &[u32]) -> u32
-    ensures { result ≡ max_stack body.now }
+pub(crate) fn max_stack(words: &[u32]) -> Option<u32>
+    ensures { unwrap_or result 0 ≡ max_stack words.now }
 {
-    if word(body, MAX_STACK_MARK_AT) == 1 {
-        return word(body, MAX_STACK_AT);
-    }
-    0
+    marked(words, MAX_STACK_MARK_AT).then(|| word(words, MAX_STACK_AT))
 }
 
 // The four words that tell one entry from the next.
 #[tactic(auto, unfolding(crate::specs::Pdb::leaves))]
-pub(crate) fn own(body: &[u32]) -> Last
-    ensures { result ≡ leaves body.now }
+pub(crate) fn own(words: &[u32]) -> Last
+    ensures { result ≡ leaves words.now }
 {
     Last {
-        some: true,
-        ty: word(body, TYPE_AT),
-        start: Rva(word(body, CODE_START_AT)),
-        code_size: word(body, CODE_SIZE_AT),
-        prolog_size: word(body, PROLOG_SIZE_AT),
+        ty: word(words, TYPE_AT),
+        start: Rva(word(words, CODE_START_AT)),
+        code_size: word(words, CODE_SIZE_AT),
+        prolog_size: word(words, PROLOG_SIZE_AT),
     }
 }

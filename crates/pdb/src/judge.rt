@@ -1,17 +1,18 @@
 // What becomes of a PDB entry: refused by 4, skipped, refused by 6, or written.
-ghost use Rattle.std.specs.Prelude.{◌≡◌, ◌^◌, ◌<◌, ◌≤◌, T};
+ghost use Rattle.std.specs.Prelude.{◌≡◌, ◌&&◌, false, MatchOption};
 ghost use Rattle.text.specs.Tests.{all};
-ghost use Rattle.pdb.specs.Pdb.{ranges, words_from, printable, apart, range_fits, ranges_fit, sizes_fit, flags_fit, length_fits, counts_fit, rest_fits, pdb_layout, repeats, pdb_skipped, in_reach, pdb_judged};
+ghost use Rattle.pdb.specs.Pdb.{printable, apart, ranges_fit, sizes_fit, flags_fit, length_fits, counts_fit, pdb_layout, pdb_skipped, in_reach, pdb_judged};
+ghost use Rattle.pdb.specs.Index.{ranges_of};
 
 use crate::Range;
 use crate::body::{
-    BASE_POINTER_AT, CODE_SIZE_AT, CODE_START_AT, CODES_AT, LENGTH_AT, MAX_STACK_MARK_AT,
-    PROGRAM_MARK_AT, PROLOG_SIZE_AT, PROLOGS_AT, RANGE_WORDS, RANGES_AT, SAVED_AT, SPACE,
-    TABLE_MARK_AT, TYPE_AT, has_program, own, range_at,
+    BASE_POINTER_AT, Body, CODE_SIZE_AT, CODE_START_AT, CODES_AT, LENGTH_AT, MAX_STACK_MARK_AT,
+    PROGRAM_MARK_AT, PROLOG_SIZE_AT, PROLOGS_AT, RANGES_AT, SAVED_AT, SPACE, TABLE_MARK_AT,
+    TYPE_AT, has_program, own,
 };
-use crate::write::{next, prolog_size};
-use entry::{Judged, Last, both, refusal, word};
+use entry::{Fate, Last, word};
 use lines::Rva;
+use refusal::Refusal;
 
 // The largest that a body may have (docs/BOOK.md).
 const MOST_TYPE: u32 = 4;
@@ -34,103 +35,64 @@ const LAST_ADDRESS: u64 = 0xffff_ffff;
 
 // Type, prolog size and saved registers.
 #[tactic(auto, unfolding(crate::specs::Pdb::sizes_fit))]
-fn sizes_fit(body: &[u32]) -> bool
-    ensures { result ≡ sizes_fit body.now }
+fn sizes_fit(words: &[u32]) -> bool
+    ensures { result ≡ sizes_fit words.now }
 {
-    if MOST_TYPE < word(body, TYPE_AT) {
-        return false;
-    }
-    if MOST_16_BITS < word(body, PROLOG_SIZE_AT) {
-        return false;
-    }
-    word(body, SAVED_AT) <= MOST_16_BITS
+    word(words, TYPE_AT) <= MOST_TYPE
+        && word(words, PROLOG_SIZE_AT) <= MOST_16_BITS
+        && word(words, SAVED_AT) <= MOST_16_BITS
 }
 
 // The marks are 0 or 1, and so is the base pointer's word.
 #[tactic(auto, unfolding(crate::specs::Pdb::flags_fit))]
-fn flags_fit(body: &[u32]) -> bool
-    ensures { result ≡ flags_fit body.now }
+fn flags_fit(words: &[u32]) -> bool
+    ensures { result ≡ flags_fit words.now }
 {
-    if 1 < word(body, MAX_STACK_MARK_AT) {
-        return false;
-    }
-    if 1 < word(body, BASE_POINTER_AT) {
-        return false;
-    }
-    if 1 < word(body, PROGRAM_MARK_AT) {
-        return false;
-    }
-    word(body, TABLE_MARK_AT) <= 1
+    word(words, MAX_STACK_MARK_AT) <= 1
+        && word(words, BASE_POINTER_AT) <= 1
+        && word(words, PROGRAM_MARK_AT) <= 1
+        && word(words, TABLE_MARK_AT) <= 1
 }
 
 // A program's length is 0 where there is none, or no table.
 #[tactic(auto, unfolding(crate::specs::Pdb::length_fits))]
-fn length_fits(body: &[u32]) -> bool
-    ensures { result ≡ length_fits body.now }
+fn length_fits(words: &[u32]) -> bool
+    ensures { result ≡ length_fits words.now }
 {
-    let length = word(body, LENGTH_AT);
-    if has_program(body) {
-        return length <= MOST_BYTES;
-    }
-    length == 0
+    let most = if has_program(words) { MOST_BYTES } else { 0 };
+    word(words, LENGTH_AT) <= most
 }
 
 // How many ranges there are, and how long the program is.
 #[tactic(auto, unfolding(crate::specs::Pdb::counts_fit))]
-fn counts_fit(body: &[u32]) -> bool
-    ensures { result ≡ counts_fit body.now }
+fn counts_fit(words: &[u32]) -> bool
+    ensures { result ≡ counts_fit words.now }
 {
-    if MOST_RANGES < word(body, PROLOGS_AT) {
-        return false;
-    }
-    if MOST_RANGES < word(body, CODES_AT) {
-        return false;
-    }
-    length_fits(body)
+    word(words, PROLOGS_AT) <= MOST_RANGES
+        && word(words, CODES_AT) <= MOST_RANGES
+        && length_fits(words)
 }
 
-// None of the n ranges from word `from` on starts at `start`.
-fn starts_apart(body: &[u32], start: Rva, from: usize, n: usize) -> bool
-    requires { (from < 2 ^ 20) × (n ≤ 16) }
-    ensures { result ≡ apart start.0 (ranges body.now from n) }
+// None of the ranges starts at `start`.
+fn starts_apart(start: Rva, ranges: &[[u32; 2]]) -> bool
+    ensures { result ≡ apart start.0 (ranges_of ranges.now) }
 {
-    let mut a = from;
-    let mut k = n;
-    while 0 < k {
-        if word(body, a) == start.0 {
-            return false;
-        }
-        a += RANGE_WORDS;
-        k -= 1;
-    }
-    true
+    ranges.iter().all(|r| Range::from(*r).start != start)
 }
 
-// A range does not end before it starts.
-#[tactic(auto, unfolding(crate::specs::Pdb::range_fits))]
-fn range_fits(r: Range) -> bool
-    ensures { result ≡ range_fits r }
+// No range ends before it starts, and their starts differ.
+fn ranges_fit(mut ranges: &[[u32; 2]]) -> bool
+    ensures { result ≡ ranges_fit (ranges_of ranges.now) }
 {
-    r.start.0 <= r.end.0
-}
-
-// Each of n ranges fits, and their starts differ.
-fn ranges_fit(body: &[u32], from: usize, n: usize) -> bool
-    requires { (from < 2 ^ 19) × (n ≤ 16) }
-    ensures { result ≡ ranges_fit (ranges body.now from n) }
-{
-    let mut a = from;
-    let mut k = n;
-    while 0 < k {
-        let range = range_at(body, a);
-        a += RANGE_WORDS;
-        k -= 1;
-        if !range_fits(range) {
+    while let Some((first, others)) = ranges.split_first() {
+        let range = Range::from(*first);
+        if range.end.0 < range.start.0 {
             return false;
         }
-        if !starts_apart(body, range.start, a, k) {
+        if !starts_apart(range.start, others) {
             return false;
         }
+        ranges = others;
     }
     true
 }
@@ -139,129 +101,89 @@ fn ranges_fit(body: &[u32], from: usize, n: usize) -> bool
 fn is_printable(b: u32) -> bool
     ensures { result ≡ printable b }
 {
-    both(SPACE <= b, b <= TILDE)
+    (SPACE <= b) & (b <= TILDE)
 }
 
-// Each of n words is a byte of a program. No early end, so that many words are tested at once.
-fn bytes_fit(body: &[u32], from: usize, n: usize) -> bool
-    requires { (from < 2 ^ 20) × (n ≤ 1024) }
-    ensures { result ≡ all printable (words_from body.now from n) }
+// Each word is a byte of a program. No early end, so that many words are tested at once.
+fn bytes_fit(program: &[u32]) -> bool
+    ensures { result ≡ all printable program.now }
 {
-    if n == 0 {
-        return true;
-    }
-    if body.len() < from + n {
-        return false;
-    }
-    let mut fit = true;
-    let mut i = 0;
-    while i < n {
-        fit = both(fit, is_printable(body[from + i]));
-        i += 1;
-    }
-    fit
+    program.iter().fold(true, |fit, b| fit & is_printable(*b))
 }
 
-// The ranges and the program, and nothing behind them.
-fn rest_fits(body: &[u32]) -> bool
-    requires { T (counts_fit body.now) }
-    ensures { result ≡ rest_fits body.now }
+// The first words fit.
+fn head_fits(words: &[u32]) -> bool
+    ensures { result ≡ (sizes_fit words.now && (flags_fit words.now && counts_fit words.now)) }
 {
-    let prologs = word(body, PROLOGS_AT) as usize;
-    let codes = word(body, CODES_AT) as usize;
-    let length = word(body, LENGTH_AT) as usize;
-    let code = RANGES_AT + RANGE_WORDS * prologs;
-    let program = code + RANGE_WORDS * codes;
-    if program + length != body.len() {
-        return false;
-    }
-    if !ranges_fit(body, RANGES_AT, prologs) {
-        return false;
-    }
-    if !ranges_fit(body, code, codes) {
-        return false;
-    }
-    bytes_fit(body, program, length)
+    sizes_fit(words) && flags_fit(words) && counts_fit(words)
 }
 
-// Refusal 4 does not apply: ranges of words, and exactly the words that the counts demand.
-#[tactic(auto, unfolding(crate::specs::Pdb::pdb_layout))]
-fn layout(body: &[u32]) -> bool
-    ensures { result ≡ pdb_layout body.now }
+// What follows them fits.
+fn parts_fit(prologs: &[[u32; 2]], codes: &[[u32; 2]], program: &[u32]) -> bool
+    ensures { result ≡ (ranges_fit (ranges_of prologs.now) && (ranges_fit (ranges_of codes.now) && all printable program.now)) }
 {
-    if !sizes_fit(body) {
-        return false;
+    ranges_fit(prologs) && ranges_fit(codes) && bytes_fit(program)
+}
+
+// The body where refusal 4 does not apply: ranges of words, and exactly the words that the counts demand.
+pub(crate) fn layout(words: &[u32]) -> Option<Body<'_>>
+    ensures { MatchOption result (pdb_layout words.now ≡ false) (λ body. body.words.now ≡ words.now) }
+{
+    if !head_fits(words) {
+        return None;
     }
-    if !flags_fit(body) {
-        return false;
+    let codes_at = RANGES_AT + 2 * word(words, PROLOGS_AT) as usize;
+    let program_at = codes_at + 2 * word(words, CODES_AT) as usize;
+    let end = program_at + word(words, LENGTH_AT) as usize;
+    if end != words.len() {
+        return None;
     }
-    if !counts_fit(body) {
-        return false;
+    let (prologs, _) = words[RANGES_AT..codes_at].as_chunks();
+    let (codes, _) = words[codes_at..program_at].as_chunks();
+    let program = &words[program_at..];
+    if !parts_fit(prologs, codes, program) {
+        return None;
     }
-    rest_fits(body)
+    Some(Body {
+        words,
+        prologs,
+        codes,
+        program,
+    })
 }
 
 // ---- skipping and refusal 6
 
-// The frame table often has series of entries that are alike: only the first of them is written.
-#[tactic(auto, unfolding(crate::specs::Pdb::repeats))]
-fn repeated(last: Last, next: Last) -> bool
-    ensures { result ≡ repeats last next }
-{
-    if !last.some {
-        return false;
-    }
-    if last.ty != next.ty {
-        return false;
-    }
-    if last.start.0 != next.start.0 {
-        return false;
-    }
-    if last.code_size != next.code_size {
-        return false;
-    }
-    last.prolog_size == next.prolog_size
-}
-
 // Code sizes close to the largest number are known to stand for something else, at the end of a function's code.
-#[tactic(auto, unfolding(crate::specs::Pdb::pdb_skipped))]
-fn skipped(body: &[u32], last: Last) -> bool
-    ensures { result ≡ pdb_skipped last body.now }
+// And the frame table often has series of entries that are alike: only the first of them is written.
+#[tactic(auto, unfolding(crate::specs::Pdb::pdb_skipped, crate::specs::Pdb::repeats))]
+fn skipped(words: &[u32], last: Option<Last>) -> bool
+    ensures { result ≡ pdb_skipped last words.now }
 {
-    if MOST_CODE_SIZE < word(body, CODE_SIZE_AT) {
-        return true;
-    }
-    let next = own(body);
-    repeated(last, next)
+    MOST_CODE_SIZE < word(words, CODE_SIZE_AT) || last == Some(own(words))
 }
 
 // Refusal 6 does not apply: the prolog and the code end within 32 bits.
 #[tactic(auto, unfolding(crate::specs::Pdb::in_reach))]
-fn reach(body: &[u32]) -> bool
-    ensures { result ≡ in_reach body.now }
+fn reach(words: &[u32]) -> bool
+    ensures { result ≡ in_reach words.now }
 {
-    let start = word(body, CODE_START_AT) as u64;
-    let code_size = word(body, CODE_SIZE_AT) as u64;
-    let prolog_size = word(body, PROLOG_SIZE_AT) as u64;
-    if LAST_ADDRESS < start + prolog_size {
-        return false;
-    }
-    start + code_size <= LAST_ADDRESS
+    let start = word(words, CODE_START_AT) as u64;
+    let code_size = word(words, CODE_SIZE_AT) as u64;
+    let prolog_size = word(words, PROLOG_SIZE_AT) as u64;
+    start + prolog_size <= LAST_ADDRESS && start + code_size <= LAST_ADDRESS
 }
 
-// What becomes of an entry: refused by 4 or 6, skipped, or written.
+// What becomes of an entry whose layout fits: refused by 6, skipped, or written.
 #[tactic(auto, unfolding(crate::specs::Pdb::pdb_judged))]
-pub(crate) fn judge(body: &[u32], last: Last) -> Judged
-    ensures { result ≡ pdb_judged last body.now }
+pub(crate) fn judge(body: Body, last: Option<Last>) -> Result<Fate, Refusal>
+    ensures { result ≡ pdb_judged last body.entry.words.now }
 {
-    if !layout(body) {
-        return Judged::Refuse(refusal::LAYOUT);
+    if skipped(body.words, last) {
+        return Ok(Fate::Skip);
     }
-    if skipped(body, last) {
-        return Judged::Skip;
+    if !reach(body.words) {
+        return Err(Refusal::Reach);
     }
-    if !reach(body) {
-        return Judged::Refuse(refusal::REACH);
-    }
-    Judged::Write
+    Ok(Fate::Write)
 }

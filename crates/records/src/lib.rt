@@ -2,6 +2,7 @@
 #![tactic(auto)]
 
 ghost use Rattle.std.specs.Prelude.{◌≡◌, ◌≤◌, length, take};
+ghost use Rattle.refusal.specs.Refusal.{answer_number};
 ghost use Rattle.book.specs.Book.{kind};
 ghost use Rattle.translate.specs.Outcome.{outcome};
 ghost use Rattle.translate.specs.Sense.{sense};
@@ -10,7 +11,8 @@ ghost use Rattle.records.specs.Compare.{compared_of, Compares};
 use book::kind_of;
 use translate::Returned;
 
-#[derive(Clone, Copy)]
+// Four answers, of which none is an error: there is no value beside them for an Option or a Result.
+#[derive(Clone, Copy, PartialEq, Eq)]
 pub enum Compared {
     Same,
     Different,
@@ -21,12 +23,12 @@ pub enum Compared {
 // What two calls returned and wrote, compared.
 fn compare(a: Returned, first: u32, x: &[u8], b: Returned, second: u32, y: &[u8]) -> Compared
     requires { (a.length ≤ length x.now) × (b.length ≤ length y.now) }
-    ensures { result ≡ compared_of a.number b.number first second (take a.length x.now) (take b.length y.now) }
+    ensures { result ≡ compared_of (answer_number a.answer) (answer_number b.answer) first second (take a.length x.now) (take b.length y.now) }
 {
-    if a.number != 0 {
+    if a.answer.is_err() {
         return Compared::Refused;
     }
-    if b.number != 0 {
+    if b.answer.is_err() {
         return Compared::Refused;
     }
     if first != second {
@@ -34,7 +36,7 @@ fn compare(a: Returned, first: u32, x: &[u8], b: Returned, second: u32, y: &[u8]
     }
     let n = a.length;
     let m = b.length;
-    if check::same(&x[..n], &y[..m]) {
+    if x[..n] == y[..m] {
         return Compared::Same;
     }
     Compared::Different

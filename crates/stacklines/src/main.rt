@@ -6,24 +6,15 @@ use std::io;
 
 const LIMIT: u32 = 32;
 
-fn refused(rt: &impl Print, n: u32) -> io::Result<()> {
-    println!(rt; "refused {n}")
-}
-
-fn answer(rt: &impl Print, book: &[u32]) -> io::Result<()> {
-    let mut text = [0u8; 65536];
-    let mut work = [0u8; 8192];
-    let r = translate::translate(book, LIMIT, &mut work, &mut text);
-    let n = r.length;
-    rt.write_all(&text[..n])?;
-    if r.number != 0 {
-        refused(rt, r.number)?;
+fn main(rt: HostRuntime) -> io::Result<()> {
+    let mut book = vec![in rt.alloc(); 0; 16384]?;
+    let mut work = vec![in rt.alloc(); 0; 8192]?;
+    let mut text = vec![in rt.alloc(); 0; 65536]?;
+    let n = input::read_book(&mut rt.reader(), &mut book);
+    let r = translate::translate(&book[..n], LIMIT, &mut work, &mut text);
+    rt.write_all(&text[..r.length])?;
+    if let Err(refusal) = r.answer {
+        println!(rt; "refused {refusal}")?;
     }
     Ok(())
-}
-
-fn main(rt: HostRuntime) -> io::Result<()> {
-    let mut book = [0u32; 16384];
-    let n = input::read_book(&mut rt.reader(), &mut book);
-    answer(&rt, &book[..n])
 }

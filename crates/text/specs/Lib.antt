@@ -1,3 +1,2 @@
 pub mod Tests
-pub mod Bits
 pub mod Text

@@ -1,5 +1,5 @@
 -- What every writer's contract says: which bytes now stand in the lent slice, and where the next ones go.
-use Rattle.std.specs.Prelude.{◌≡◌, List, [], ◌∷◌, ◌++◌, ℕ, zero, suc, ◌+◌, ◌-◌, ◌/◌, ◌%◌, ◌^◌, ◌≤◌, min, length}
+use Rattle.std.specs.Prelude.{◌≡◌, List, [], ◌∷◌, ◌++◌, ℕ, ◌+◌, ◌-◌, ◌^◌, ◌≤◌, min, length}
 use Prim.Native.Char.{code}
 use Prim.Native.String.{String, [] as nil, ◌∷◌ as ◌▹◌}
 use Rattle.std.proofs.lemmas.List.Edits.{sets}
@@ -26,13 +26,3 @@ pub record Left (d : List ℕ) (at : ℕ) (t d₁ : List ℕ) (p : ℕ) (u : Lis
   pub done : List ℕ
   pub put : Put d at done d₁ p
   pub rest : done ++ u ≡ t
-
--- a packed name, the first byte lowest: at most n bytes, up to where nothing is left
-unfoldable pub unpack_in : ℕ → ℕ → List ℕ
-unpack_in zero m = []
-unpack_in (suc n) zero = []
-unpack_in (suc n) (suc m) = suc m % 256 ∷ unpack_in n (suc m / 256)
-
--- the name in a u64
-unfoldable pub unpack : ℕ → List ℕ
-unpack m = unpack_in 8 m

@@ -1,7 +1,7 @@
 -- Demand 3: two translated books of one kind have equal texts exactly when their senses are equal. What is left out of the sense of a translated book
 -- is what is skipped, and nothing else. The law of the CFA, of the lines of a book's sense.
 -- A kind adds one case to `text_by`, `next_by`, `ok_by` and `judged_by_lem`.
-use Rattle.std.specs.Prelude.{◌↔◌, ◌≡◌, cond, ℕ, zero, suc, ◌+◌, ◌-◌, ◌*◌, ◌<◌, length, take, pos, ltb, eqb}
+use Rattle.std.specs.Prelude.{◌↔◌, ◌≡◌, cond, ℕ, zero, suc, ◌+◌, ◌-◌, ◌*◌, ◌<◌, Option, Ok, length, take, pos, ltb, eqb}
 use Rattle.std.proofs.Math.Path.{refl, sym, ap}
 use Rattle.std.proofs.Common.{◌∙◌, arith}
 use mathlib.Core.List.{List, [], ◌∷◌, ◌++◌, append-nil, append_assoc, reverse, reverse_aux}
@@ -15,10 +15,10 @@ use Rattle.lines.specs.Lines.{Line, register_plus, rule, cfa, init, line_ok, ren
 use Rattle.lines.specs.Lines.Laws.{render_append}
 use Rattle.lines.specs.Read.{read}
 use Rattle.lines.specs.Read.Laws.{read_render, render_injective}
-use Rattle.entry.specs.declared.Judged.{Judged}
-use Rattle.entry.specs.declared.Judged.TheVariants.{Skip, Write}
+use Rattle.refusal.specs.Refusal.{answer_number}
+use Rattle.entry.specs.declared.Fate.TheVariants.{Skip, Write}
 use Rattle.entry.specs.declared.Last.{Last}
-use Rattle.entry.specs.Entry.{Entry, no_last, word}
+use Rattle.entry.specs.Entry.{Entry, Judged, no_last, word}
 use Rattle.book.specs.Book.{kind, count, body, bodies, contents_ok}
 use Rattle.book.specs.Book.Laws.{bodies_at}
 use Rattle.x64.specs.declared.Op.{Op}
@@ -41,11 +41,11 @@ use Rattle.translate.specs.Sense.{skipped, lines_of, sense_from, sense, unskippe
 -- ---- what each kind shows of an entry that is not refused, behind the bodies ds, latest first
 
 -- what the walk of the text hands on, where the kind is 2, 3, 4 or another
-abbrev handed : Bool → Bool → Bool → List (List ℕ) → Last
+abbrev handed : Bool → Bool → Bool → List (List ℕ) → Option Last
 handed t u v ds = cond t no_last (cond u no_last (cond v (last_unskipped ds) no_last))
 
 -- by the book's kind
-abbrev left : ℕ → List (List ℕ) → Last
+abbrev left : ℕ → List (List ℕ) → Option Last
 left k ds = handed (eqb k 2) (eqb k 3) (eqb k 4) ds
 
 -- one of four, by kind
@@ -97,7 +97,7 @@ module _ (l : ℕ) (ds : List (List ℕ)) (b : List ℕ) where
   ok_by false false false e = x64_entry_ok b
 
   judged_by_lem : (t u v : Bool) → (an_entry t u v).number ≡ 0
-      → chosen t u v (arm_judged b) (dwarf_judged b) (pdb_judged (last_unskipped ds) b) (x64_judged l b) ≡ cond (is_skipped t u v) Skip Write
+      → chosen t u v (arm_judged b) (dwarf_judged b) (pdb_judged (last_unskipped ds) b) (x64_judged l b) ≡ cond (is_skipped t u v) (Ok Skip) (Ok Write)
   judged_by_lem true u v e = (arm_accepted no_last b e).judged_is
   judged_by_lem false true v e = (dwarf_accepted no_last b e).judged_is
   judged_by_lem false false true e = (pdb_accepted (last_unskipped ds) b e).judged_is
@@ -116,7 +116,7 @@ module _ (k l : ℕ) (ds : List (List ℕ)) (b : List ℕ) (e : (entry k l ds b)
   unfolding entry_of lines_of
   entry_ok = either (all line_ok) (skipped k l ds b) [] (lines_of k b) tt (ok_by l ds b (eqb k 2) (eqb k 3) (eqb k 4) e)
 
-  entry_judged : judged_of k l ds b ≡ cond (skipped k l ds b) Skip Write
+  entry_judged : judged_of k l ds b ≡ cond (skipped k l ds b) (Ok Skip) (Ok Write)
   unfolding entry_of skipped judged_of
   entry_judged = judged_by_lem l ds b (eqb k 2) (eqb k 3) (eqb k 4) e
 
@@ -143,7 +143,7 @@ module _ (k l room : ℕ) where
       let e : Entry = entry k l ds b in
       let o = onward_none (verdict e.number room (length acc) (length e.text)) done acc (walk k l room e.next bs (suc done) (acc ++ e.text)) h in
       let z : e.number ≡ 0 = verdict_none e.number room (length acc) (length e.text) o.0 in
-      (z, o.1 ∙ ap (λ (s : Last). walk k l room s bs (suc done) (acc ++ e.text)) (entry_next k l ds b z))
+      (z, o.1 ∙ ap (λ (s : Option Last). walk k l room s bs (suc done) (acc ++ e.text)) (entry_next k l ds b z))
 
   -- so what holds of every entry that is not refused holds of all
   walk_all : (P : List (List ℕ) → List (List ℕ) → Type 0) → ((ds : List (List ℕ)) → P ds [])
@@ -186,10 +186,10 @@ translated b l w t = go (ltb (length w) AREA) (ltb MOST_LIMIT l) (contents_ok b)
 -- each of these bodies is judged to be written, but for those that are skipped; ds come before them, latest first
 Judges : ℕ → ℕ → List (List ℕ) → List (List ℕ) → Type 0
 Judges k l ds [] = Unit {0}
-Judges k l ds (b ∷ bs) = (judged_of k l ds b ≡ cond (skipped k l ds b) Skip Write) × Judges k l (b ∷ ds) bs
+Judges k l ds (b ∷ bs) = (judged_of k l ds b ≡ cond (skipped k l ds b) (Ok Skip) (Ok Write)) × Judges k l (b ∷ ds) bs
 
 judged_at : (k l : ℕ) (ds xs : List (List ℕ)) (x : List ℕ) (ys : List (List ℕ)) → Judges k l ds (xs ++ (x ∷ ys))
-    → judged_of k l (reverse_aux xs ds) x ≡ cond (skipped k l (reverse_aux xs ds) x) Skip Write
+    → judged_of k l (reverse_aux xs ds) x ≡ cond (skipped k l (reverse_aux xs ds) x) (Ok Skip) (Ok Write)
 unfolding Judges
 judged_at k l ds [] x ys j = j.0
 judged_at k l ds (y ∷ xs) x ys j = judged_at k l (y ∷ ds) xs x ys j.1
@@ -209,7 +209,7 @@ module _ (b : List ℕ) (l : ℕ) (w t : List ℕ) (h : (outcome b l w t).number
 
   starts : walk_of b l (length t) ≡ going (kind b) l (length t) [] (bodies b) 0 []
   unfolding walk_of
-  starts = ap (λ (s : Last). walk (kind b) l (length t) s (bodies b) 0 []) (sym first)
+  starts = ap (λ (s : Option Last). walk (kind b) l (length t) s (bodies b) 0 []) (sym first)
 
   none_refused : (going (kind b) l (length t) [] (bodies b) 0 []).number ≡ 0
   none_refused = sym (ap (λ (o : Walked). o.number) starts) ∙ sym (ap (λ (o : Outcome). o.number) (translated b l w t h)) ∙ h
@@ -237,14 +237,14 @@ module _ (b : List ℕ) (l : ℕ) (w t : List ℕ) (h : (outcome b l w t).number
 
   -- every body that is not skipped is judged to be written: nothing but skipping keeps a body out of the sense, and out of the text
   pub only_skipped : (i : ℕ) → i < count b → skipped (kind b) l (reverse (take i (bodies b))) (body b i) ≡ false
-      → (kind b ≡ 1 → x64_judged l (body b i) ≡ Write)
-      × (kind b ≡ 2 → arm_judged (body b i) ≡ Write)
-      × (kind b ≡ 3 → dwarf_judged (body b i) ≡ Write)
-      × (kind b ≡ 4 → pdb_judged (last_unskipped (reverse (take i (bodies b)))) (body b i) ≡ Write)
+      → (kind b ≡ 1 → x64_judged l (body b i) ≡ Ok Write)
+      × (kind b ≡ 2 → arm_judged (body b i) ≡ Ok Write)
+      × (kind b ≡ 3 → dwarf_judged (body b i) ≡ Ok Write)
+      × (kind b ≡ 4 → pdb_judged (last_unskipped (reverse (take i (bodies b)))) (body b i) ≡ Ok Write)
   unfolding judged_of
   only_skipped i h s =
       let j : Judges (kind b) l [] (take i (bodies b) ++ (body b i ∷ drop (suc i) (bodies b))) = rw (bodies_at b i h) at judges in
-      let e : judged_of (kind b) l (reverse (take i (bodies b))) (body b i) ≡ Write
+      let e : judged_of (kind b) l (reverse (take i (bodies b))) (body b i) ≡ Ok Write
       = judged_at (kind b) l [] (take i (bodies b)) (body b i) (drop (suc i) (bodies b)) j ∙ rw s refl in
       (λ k. rw k at e, λ k. rw k at e, λ k. rw k at e, λ k. rw k at e)
 
@@ -265,7 +265,7 @@ same_text_same_sense b₁ l₁ w₁ t₁ b₂ l₂ w₂ t₂ k h₁ h₂ =
 -- the same of what two calls of the code leave behind them
 pub calls_alike : (b₁ : List ℕ) (l₁ : ℕ) (w₁ t₁ b₂ : List ℕ) (l₂ : ℕ) (w₂ t₂ : List ℕ)
     {w₁' t₁' w₂' t₂' : List ℕ} {r₁ r₂ : Returned} → kind b₁ ≡ kind b₂
-    → Called (outcome b₁ l₁ w₁ t₁) w₁' t₁' r₁ → Called (outcome b₂ l₂ w₂ t₂) w₂' t₂' r₂ → r₁.number ≡ 0 → r₂.number ≡ 0
+    → Called (outcome b₁ l₁ w₁ t₁) w₁' t₁' r₁ → Called (outcome b₂ l₂ w₂ t₂) w₂' t₂' r₂ → answer_number r₁.answer ≡ 0 → answer_number r₂.answer ≡ 0
     → (take r₁.length t₁' ≡ take r₂.length t₂') ↔ (sense b₁ l₁ ≡ sense b₂ l₂)
 calls_alike b₁ l₁ w₁ t₁ b₂ l₂ w₂ t₂ k p₁ p₂ z₁ z₂ =
     rw (p₁.length_is, p₁.text_is, p₂.length_is, p₂.text_is)

@@ -1,6 +1,7 @@
 -- What a call comes to, for every input (document 01, "Refusal list"): the number, the entries done, the length, and both buffers to the byte.
-use Rattle.std.specs.Prelude.{◌≡◌, List, [], ◌∷◌, ◌++◌, cond, ℕ, zero, suc, ◌-◌, ◌≤◌, ltb, eqb}
+use Rattle.std.specs.Prelude.{◌≡◌, List, [], ◌∷◌, ◌++◌, cond, ℕ, zero, suc, ◌-◌, ◌≤◌, Option, ltb, eqb}
 use lib.ListN.{length, drop, replicate}
+use Rattle.refusal.specs.Refusal.{answer_number}
 use Rattle.entry.specs.declared.Last.{Last}
 use Rattle.entry.specs.Entry.{Entry, no_last}
 use Rattle.book.specs.Book.{kind, bodies, contents_ok}
@@ -12,7 +13,7 @@ use Rattle.translate.specs.declared.Returned.{Returned}
 pub mod Laws
 
 -- an entry, by the book's kind: 4, skipping, 5 to 7, its text, and what it leaves to the next
-unfoldable pub entry_of : ℕ → ℕ → Last → List ℕ → Entry
+unfoldable pub entry_of : ℕ → ℕ → Option Last → List ℕ → Entry
 entry_of kind limit last body =
     cond (eqb kind 2) (arm_entry last body) (cond (eqb kind 3) (dwarf_entry last body) (cond (eqb kind 4) (pdb_entry last body) (x64_entry limit last body)))
 
@@ -47,7 +48,7 @@ onward zero done acc rest = rest
 onward (suc n) done acc rest = record { number = suc n; done = done; text = acc }
 
 -- each entry in turn, until one is refused
-unfoldable pub walk : ℕ → ℕ → ℕ → Last → List (List ℕ) → ℕ → List ℕ → Walked
+unfoldable pub walk : ℕ → ℕ → ℕ → Option Last → List (List ℕ) → ℕ → List ℕ → Walked
 walk k l room s [] done acc = record { number = 0; done = done; text = acc }
 walk k l room s (b ∷ bs) done acc =
     let rest = walk k l room (entry_of k l s b).next bs (suc done) (acc ++ (entry_of k l s b).text) in
@@ -94,7 +95,7 @@ outcome b l w t =
 
 -- the contract of the call: what is returned and what both buffers hold afterwards are the outcome's
 pub record Called (o : Outcome) (w' t' : List ℕ) (r : Returned) : Type 0 where
-  pub number_is : r.number ≡ o.number
+  pub number_is : answer_number r.answer ≡ o.number
   pub entries_is : r.entries ≡ o.entries
   pub length_is : r.length ≡ o.length
   pub work_is : w' ≡ o.work

@@ -1,6 +1,6 @@
 -- The sense of a book (document 01, "Sense"): the lines of its entries in order, worked out from the bodies that are not skipped. A kind adds its
 -- skipping to `skipped` and its lines to `lines_of`.
-use Rattle.std.specs.Prelude.{List, [], ◌∷◌, ◌++◌, Bool, cond, ℕ, ◌+◌, length, take, eqb}
+use Rattle.std.specs.Prelude.{List, [], ◌∷◌, ◌++◌, Bool, cond, ℕ, ◌+◌, take, eqb}
 use Rattle.lines.specs.Lines.{Line}
 use Rattle.book.specs.Book.{kind, bodies}
 use Rattle.x64.specs.X64.{x64_skipped}

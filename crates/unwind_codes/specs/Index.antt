@@ -4,9 +4,8 @@ use Rattle.std.proofs.Common.{sym, ap, ◌∙◌, arith, subst, eqb→eq, leb→
 use Rattle.text.specs.Text.{ascii}
 use Rattle.text.specs.Tests.{is_false, and_l, and_r, all, tests, at}
 use Rattle.unwind_codes.specs.declared.Operation.{Operation}
-use Rattle.unwind_codes.specs.declared.Checked.{Checked}
 use Rattle.unwind_codes.specs.UnwindCodes.{op, other, end, undecodable, scalable, any_reg, Code, code, codes, fits, bits_fit, find, code_of, count, behind, X, Z, meant, number, byte}
-use Rattle.unwind_codes.specs.UnwindCodes.{size_at, operation_at, whole, ends, list_in, list, op_words, arm_number}
+use Rattle.unwind_codes.specs.UnwindCodes.{size_at, operation_at, ends, list_in, list, op_words}
 
 -- ---- what the table is held to
 
@@ -330,15 +329,6 @@ pub ops_length : (cs : List (List ℕ)) → length (op_words cs) ≡ 4 * length 
 unfolding op_words
 ops_length [] = refl
 ops_length (c ∷ cs) = omega (arith, ops_length cs)
-
--- ---- the check of the list
-
--- what it gives
-pub record Checks (bs : List ℕ) (r : Checked) : Type 0 where
-  pub number_is : r.number ≡ arm_number bs
-  pub count_is : r.number ≡ 0 → r.count ≡ length (list bs)
-  pub few : r.number ≡ 0 → r.count ≤ 1024
-  pub all_whole : r.number ≡ 0 → T (all whole (list bs))
 
 -- ---- the operation at a place, by its first byte
 

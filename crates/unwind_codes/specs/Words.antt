@@ -1,18 +1,18 @@
 -- What is true of every decoded body (document 02, request 3): it keeps the ARM64 layout, so that refusal 4 never meets it; the words that a kind does
 -- not use are 0; it has at most 4,099 words; and what stood in the room does not matter.
-use Rattle.std.specs.Prelude.{◌≡◌, refl, Bool, true, false, cond, ◌&&◌, List, [], ◌∷◌, ◌++◌, ℕ, zero, suc, ◌+◌, ◌*◌, ◌/◌, ◌%◌, ◌≤◌, ◌<◌, T, length, get_or, take, eqb, leb}
-use Rattle.std.proofs.Common.{sym, ap, ◌∙◌, arith, length-append, get_or-append-add, append_assoc, leb→le, le→leb, le-leb, leb-false, ne_eqb}
-use Rattle.std.proofs.lemmas.Bool.{false≢true}
+use Rattle.std.specs.Prelude.{◌≡◌, refl, Bool, true, false, cond, ◌&&◌, List, [], ◌∷◌, ◌++◌, ℕ, zero, suc, ◌+◌, ◌*◌, ◌/◌, ◌%◌, ◌≤◌, ◌<◌, T, length, get_or, take, eqb, leb, Result, Ok, Err}
+use Rattle.std.proofs.Common.{arith, length-append, get_or-append-add, append_assoc, leb→le, le→leb, le-leb, leb-false, ne_eqb}
 use Rattle.std.proofs.Math.Seq.{get_or-append_seam}
 use Rattle.std.proofs.Math.Dec.{eqb_refl}
 use Rattle.text.specs.Tests.{is_true, and_l, and_r, both, either, all}
-use Rattle.entry.specs.Entry.{word}
-use Rattle.entry.specs.declared.Judged.{Judged}
-use Rattle.entry.specs.declared.Judged.TheVariants.{Refuse, Skip, Write}
+use Rattle.entry.specs.Entry.{Judged, word}
+use Rattle.entry.specs.declared.Fate.TheVariants.{Skip, Write}
+use Rattle.refusal.specs.declared.Refusal.{Refusal}
+use Rattle.refusal.specs.declared.Refusal.TheVariants.{Layout, Reach}
+use Rattle.refusal.specs.Refusal.{answer_number}
 use Rattle.arm64.specs.Arm64.{op_fits, ops_fit, arm_layout, arm_skipped, arm_judged, in_reach, no_pair, ops}
-use Rattle.fill.specs.declared.Filled.{Filled}
 use Rattle.fill.specs.Fill.{Fills}
-use Rattle.fill.specs.Fill.Laws.{filled_alike}
+use Rattle.fill.specs.Fill.Laws.{count as filled, filled_alike}
 use Rattle.unwind_codes.specs.declared.Operation.{Operation}
 use Rattle.unwind_codes.specs.UnwindCodes.{op, other, undecodable, any_reg, any_reg_offset, Code, codes, fits, find, count, behind, meant, number, size_at, operation_at, whole, list}
 use Rattle.unwind_codes.specs.UnwindCodes.{op_words, arm_body, arm_number, decoded}
@@ -183,23 +183,17 @@ layout_kept address size bs z =
     both (leb (length (list bs)) 1024) _ (few bs z)
     (ops_fit_lem (arm_body address size bs) (length (list bs)) 3 (body_passes kind_fits (operation_passes kind_fits tt fits_table) address size bs) (omega (arith, body_size address size bs)))
 
-is_refused4 : Judged → Bool
-is_refused4 (Refuse n) = eqb n 4
-is_refused4 Skip = false
-is_refused4 Write = false
-
 -- so refusal 4 never meets it
-pub never_refused_4 : (address size : ℕ) (bs : List ℕ) → arm_number bs ≡ 0 → arm_judged (arm_body address size bs) ≡ Refuse 4 → ⊥
-unfolding is_refused4 arm_judged
+pub never_refused_4 : (address size : ℕ) (bs : List ℕ) → arm_number bs ≡ 0 → arm_judged (arm_body address size bs) ≡ Err Layout → ⊥
+unfolding arm_judged
 never_refused_4 address size bs z q =
     let ws = arm_body address size bs in
-    let l = is_true (arm_layout ws) (layout_kept address size bs z) in
-    false≢true (sym (go (arm_skipped ws) (in_reach (word ws 0) 0 0 no_pair (ops ws))) ∙ ap is_refused4 (rw l at q))
+    go (arm_skipped ws) (in_reach (word ws 0) 0 0 no_pair (ops ws)) (rw (is_true (arm_layout ws) (layout_kept address size bs z)) at q)
   where
-    go : (s x : Bool) → is_refused4 (cond s Skip (cond x Write (Refuse 6))) ≡ false
-    go true x = refl
-    go false true = refl
-    go false false = refl
+    go : (s x : Bool) → ◌≡◌ {A = Judged} (cond s (Ok Skip) (cond x (Ok Write) (Err Reach))) (Err Layout) → ⊥
+    go true x e = cc
+    go false true e = cc
+    go false false e = cc
 
 -- ---- the length
 
@@ -210,6 +204,7 @@ body_length address size bs z = omega (arith, body_size address size bs, leb→l
 -- ---- the room
 
 -- what stood in it does not matter
-pub room_alike : (address size : ℕ) (bs : List ℕ) {d d' c c' : List ℕ} {r s : Filled} → Fills (decoded bs address size (length d)) d d' r
-    → Fills (decoded bs address size (length c)) c c' s → length d ≡ length c → (r.number ≡ s.number) × ((r.filled ≡ s.filled) × (take r.filled d' ≡ take s.filled c'))
-room_alike address size bs p q same = filled_alike p (rw (← same) at q)
+pub room_alike : (address size : ℕ) (bs d d' c c' : List ℕ) (r s : Result ℕ Refusal) → Fills (decoded bs address size (length d)) d d' r
+    → Fills (decoded bs address size (length c)) c c' s → length d ≡ length c
+    → (answer_number r ≡ answer_number s) × ((filled r ≡ filled s) × (take (filled r) d' ≡ take (filled s) c'))
+room_alike address size bs d d' c c' r s p q same = filled_alike (decoded bs address size (length d)) d d' c c' r s p (rw (← same) at q)

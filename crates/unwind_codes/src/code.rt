@@ -67,28 +67,6 @@ const RESERVED_5: u32 = 0xfb;
 
 const PAC_SIGN_LR: u32 = 0xfc;
 
-fn wide(x: u8) -> u32
-    ensures { (result ≡ x) × (result < 256) }
-{
-    x as u32
-}
-
-// The byte at i, which is there.
-fn byte_in(bytes: &[u8], i: usize) -> u32
-    requires { i < length bytes.now }
-    ensures { (result ≡ get_or bytes.now i 0) × (result < 256) }
-{
-    wide(bytes[i])
-}
-
-// The three bytes from i on as a number, the high one first.
-fn three(bytes: &[u8], i: usize) -> u32
-    requires { i + 3 ≤ length bytes.now }
-    ensures { (result ≡ number 3 (drop i bytes.now)) × (result < 2 ^ 24) }
-{
-    byte_in(bytes, i) * 65536 + byte_in(bytes, i + 1) * 256 + byte_in(bytes, i + 2)
-}
-
 fn op(kind: u32, letter: u32, register: u32, value: u32) -> Operation
     ensures { result ≡ op_of kind letter register value }
 {
@@ -123,12 +101,12 @@ fn size_of(b: u32) -> usize
     }
 }
 
-// How many bytes the code at i has, whose first byte is there.
-pub(crate) fn size_at(bytes: &[u8], i: usize) -> usize
-    requires { i < length bytes.now }
-    ensures { (result ≡ size_at (drop i bytes.now)) × (1 ≤ result) × (result ≤ 5) }
+// How many bytes the code has that these start with.
+pub(crate) fn size_at(bytes: &[u8]) -> usize
+    requires { 0 < length bytes.now }
+    ensures { (result ≡ size_at bytes.now) × (1 ≤ result) × (result ≤ 5) }
 {
-    size_of(byte_in(bytes, i))
+    size_of(u32::from(bytes[0]))
 }
 
 // ---- 00 to BF: one byte
@@ -338,32 +316,34 @@ fn no_number(b: u32) -> Operation
     op(UNDECODABLE, 0, 0, 0)
 }
 
-fn special(bytes: &[u8], i: usize, b: u32) -> Operation
-    requires { (b ≡ get_or bytes.now i 0) × (224 ≤ b) × (b < 256) × (i + (code_of b).size ≤ length bytes.now) }
-    ensures { result ≡ operation_at (drop i bytes.now) }
+fn special(bytes: &[u8]) -> Operation
+    requires { (224 ≤ get_or bytes.now 0 0) × (0 < length bytes.now) × (size_at bytes.now ≤ length bytes.now) }
+    ensures { result ≡ operation_at bytes.now }
 {
+    let b = u32::from(bytes[0]);
     if b == ALLOC_L {
-        return op(ALLOC_STACK, 0, 0, WIDE_UNIT * three(bytes, i + 1));
+        let size = u32::from_be_bytes([0, bytes[1], bytes[2], bytes[3]]);
+        return op(ALLOC_STACK, 0, 0, WIDE_UNIT * size);
     }
     if b == SAVE_ANY_REG {
-        return any_reg(byte_in(bytes, i + 1), byte_in(bytes, i + 2));
+        return any_reg(u32::from(bytes[1]), u32::from(bytes[2]));
     }
     no_number(b)
 }
 
-// The operation of the code at i, all of whose bytes are there.
-pub(crate) fn operation_at(bytes: &[u8], i: usize) -> Operation
-    requires { (i < length bytes.now) × (i + size_at (drop i bytes.now) ≤ length bytes.now) }
-    ensures { result ≡ operation_at (drop i bytes.now) }
+// The operation of the code that these bytes start with, all of whose bytes are there.
+pub(crate) fn operation_at(bytes: &[u8]) -> Operation
+    requires { (0 < length bytes.now) × (size_at bytes.now ≤ length bytes.now) }
+    ensures { result ≡ operation_at bytes.now }
 {
-    let b = byte_in(bytes, i);
+    let b = u32::from(bytes[0]);
     if b < ALLOC_M {
         return one_byte(b);
     }
     if b < ALLOC_L {
-        return two_bytes(b, 256 * b + byte_in(bytes, i + 1));
+        return two_bytes(b, 256 * b + u32::from(bytes[1]));
     }
-    special(bytes, i, b)
+    special(bytes)
 }
 
 // Whether save_any_reg ends the list: where it is reserved.
@@ -380,12 +360,12 @@ fn any_reg_ends(s: u32, t: u32) -> bool
     false
 }
 
-// Whether the code at i ends the list: an end, or one that is reserved or for a custom stack.
-pub(crate) fn ends(bytes: &[u8], i: usize) -> bool
-    requires { (i < length bytes.now) × (i + size_at (drop i bytes.now) ≤ length bytes.now) }
-    ensures { result ≡ ends_of (operation_at (drop i bytes.now)) }
+// Whether the code that these bytes start with ends the list: an end, or one that is reserved or for a custom stack.
+pub(crate) fn ends(bytes: &[u8]) -> bool
+    requires { (0 < length bytes.now) × (size_at bytes.now ≤ length bytes.now) }
+    ensures { result ≡ ends_of (operation_at bytes.now) }
 {
-    let b = byte_in(bytes, i);
+    let b = u32::from(bytes[0]);
     if b < END_CODE {
         return false;
     }
@@ -393,7 +373,7 @@ pub(crate) fn ends(bytes: &[u8], i: usize) -> bool
         return false;
     }
     if b == SAVE_ANY_REG {
-        return any_reg_ends(byte_in(bytes, i + 1), byte_in(bytes, i + 2));
+        return any_reg_ends(u32::from(bytes[1]), u32::from(bytes[2]));
     }
     b != PAC_SIGN_LR
 }

@@ -1,7 +1,7 @@
 -- An x64 body back to UNWIND_INFO bytes: `decoded` held to its own reading, decode (encode b) ≡ b. A body can be encoded where it has one info
 -- and kinds 1 to 6 alone, words that are not used are 0, saves are relative to RSP just where there is no frame register, the frame offset is a
 -- multiple of 16 and there are at most 255 slots.
-use Rattle.std.specs.Prelude.{◌≡◌, Bool, true, false, cond, ◌&&◌, get_or, drop, eqb, ltb, leb}
+use Rattle.std.specs.Prelude.{◌≡◌, Bool, true, false, cond, ◌&&◌, None, get_or, drop, eqb, ltb, leb}
 use Rattle.std.proofs.Math.Path.{refl, ap}
 use Rattle.std.proofs.Common.{sym, ◌∙◌, arith, drop_of_length-le, drop-cons, eqb→eq, ltb→lt, lt→ltb, leb→le}
 use mathlib.Core.List.{List, [], ◌∷◌, ◌++◌, append-nil}
@@ -12,7 +12,9 @@ use Rattle.std.proofs.Math.Dec.{T}
 use borrow.Author.Tests.{eqb-true, le-leb, le-ltb}
 use Rattle.text.specs.Tests.{and_l, and_r, both, all_append}
 use Rattle.entry.specs.Entry.{word}
-use Rattle.unwind_info.specs.UnwindInfo.{slot_at, long_at, part_size, code, undecodable, save_kind, codes, code_at, codes_in, codes_of, op_words, info_words}
+use Rattle.unwind_info.specs.declared.OpKind.{OpKind}
+use Rattle.unwind_info.specs.declared.OpKind.TheVariants.{PushNonVolatile, Alloc, SetFpRegister, PushMachineFrame}
+use Rattle.unwind_info.specs.UnwindInfo.{slot_at, long_at, part_size, code, save_kind, codes, code_at, codes_in, codes_of, kind_number, op_words, info_words}
 use Rattle.unwind_info.specs.UnwindInfo.{parts, infos_words, x64_body, part_number, first_refused, x64_number, decoded}
 use Rattle.unwind_info.specs.Index.{parts_first, parts_none}
 use Rattle.unwind_info.specs.Words.{are_bytes}
@@ -49,20 +51,26 @@ op_bytes k r v =
 unfoldable pub op_encodes : ℕ → ℕ → ℕ → ℕ → Bool
 op_encodes f k r v =
     cond (eqb k 1) (ltb r 16 && eqb v 0) (cond (eqb k 2) (eqb r 0 && ltb v (2 ^ 32)) (cond (eqb k 5) (eqb r 0 && eqb v 0)
-    (cond (eqb k 6) (eqb r 0 && leb v 1) (eqb k (save_kind f) && (ltb r 16 && ltb v (2 ^ 32))))))
+    (cond (eqb k 6) (eqb r 0 && leb v 1) (eqb k (kind_number (save_kind f)) && (ltb r 16 && ltb v (2 ^ 32))))))
 
 -- ---- one operation
 
 -- bytes that are read as an operation, whatever follows
-record Encoded (f k r v : ℕ) (bytes : List ℕ) : Type 0 where
+record Encoded (f : ℕ) (k : OpKind) (r v : ℕ) (bytes : List ℕ) : Type 0 where
   pub slots : ℕ
   pub some : 1 ≤ slots
   pub size : length bytes ≡ 2 * slots
   pub is : (rest : List ℕ) → code_at f (bytes ++ rest) ≡ code slots k r v
 
+-- the same of its words
+record Read (f k r v : ℕ) (bytes : List ℕ) : Type 0 where
+  pub kind : OpKind
+  pub number : kind_number kind ≡ k
+  pub encoded : Encoded f kind r v bytes
+
 -- operation code and info are read as they were put
 code_read : (f c i : ℕ) (rest : List ℕ) → c < 16
-    → code_at f (0 ∷ (c + 16 * i) ∷ rest) ≡ get_or (codes f i (slot_at (0 ∷ (c + 16 * i) ∷ rest) 2) (long_at (0 ∷ (c + 16 * i) ∷ rest) 2)) c undecodable
+    → code_at f (0 ∷ (c + 16 * i) ∷ rest) ≡ get_or (codes f i (slot_at (0 ∷ (c + 16 * i) ∷ rest) 2) (long_at (0 ∷ (c + 16 * i) ∷ rest) 2)) c None
 unfolding code_at
 code_read f c i rest h =
     let m : (c + 16 * i) % 16 ≡ c = omega arith in
@@ -77,52 +85,52 @@ long_read : (x y v : ℕ) (rest : List ℕ) → long_at (x ∷ y ∷ long_bytes 
 unfolding long_at slot_at
 long_read x y v rest = omega arith
 
-push_encoded : (f r : ℕ) → Encoded f 1 r 0 (code_bytes 0 r)
+push_encoded : (f r : ℕ) → Encoded f PushNonVolatile r 0 (code_bytes 0 r)
 unfolding codes
 push_encoded f r = record { slots = 1; some = omega arith; size = refl; is = λ rest. code_read f 0 r rest (omega arith) }
 
-set_encoded : (f : ℕ) → Encoded f 5 0 0 (code_bytes 3 0)
+set_encoded : (f : ℕ) → Encoded f SetFpRegister 0 0 (code_bytes 3 0)
 unfolding codes
 set_encoded f = record { slots = 1; some = omega arith; size = refl; is = λ rest. code_read f 3 0 rest (omega arith) }
 
-frame_encoded : (f v : ℕ) → v ≤ 1 → Encoded f 6 0 v (code_bytes 10 v)
+frame_encoded : (f v : ℕ) → v ≤ 1 → Encoded f PushMachineFrame 0 v (code_bytes 10 v)
 unfolding codes
 frame_encoded f v h = record { slots = 1; some = omega arith; size = refl; is = λ rest. code_read f 10 v rest (omega arith) ∙ rw (le-leb v 1 h) }
 
 units : (v : ℕ) → T (in_units v) → (v % 8 ≡ 0) × (v < 524288)
 units v h = (eqb→eq (v % 8) 0 (and_l (eqb (v % 8) 0) _ h), ltb→lt v 524288 (and_r (eqb (v % 8) 0) _ h))
 
-alloc_encoded : (f v : ℕ) → Encoded f 2 0 v (alloc_bytes v)
+alloc_encoded : (f v : ℕ) → Encoded f Alloc 0 v (alloc_bytes v)
 unfolding alloc_bytes codes
 alloc_encoded f v = go (in_units v) (leb 8 v && leb v 128) refl refl
   where
-    small : T (leb 8 v && leb v 128) → v % 8 ≡ 0 → Encoded f 2 0 v (code_bytes 2 (v / 8 - 1))
+    small : T (leb 8 v && leb v 128) → v % 8 ≡ 0 → Encoded f Alloc 0 v (code_bytes 2 (v / 8 - 1))
     small h m =
         let low = leb→le 8 v (and_l (leb 8 v) _ h) in
         let high = leb→le v 128 (and_r (leb 8 v) _ h) in
         let e : 8 * (v / 8 - 1) + 8 ≡ v = omega arith in
-        record { slots = 1; some = omega arith; size = refl; is = λ rest. code_read f 2 (v / 8 - 1) rest (omega arith) ∙ ap (code 1 2 0) e }
+        record { slots = 1; some = omega arith; size = refl; is = λ rest. code_read f 2 (v / 8 - 1) rest (omega arith) ∙ ap (code 1 Alloc 0) e }
 
-    near : v % 8 ≡ 0 → Encoded f 2 0 v (code_bytes 1 0 ++ slot_bytes (v / 8))
+    near : v % 8 ≡ 0 → Encoded f Alloc 0 v (code_bytes 1 0 ++ slot_bytes (v / 8))
     near m =
         let e : 8 * (v / 8) ≡ v = omega arith in
         record {
           slots = 2;
           some = omega arith;
           size = refl;
-          is = λ rest. code_read f 1 0 (slot_bytes (v / 8) ++ rest) (omega arith) ∙ ap (λ (n : ℕ). code 2 2 0 (8 * n)) (slot_read 0 1 (v / 8) rest) ∙ ap (code 2 2 0) e;
+          is = λ rest. code_read f 1 0 (slot_bytes (v / 8) ++ rest) (omega arith) ∙ ap (λ (n : ℕ). code 2 Alloc 0 (8 * n)) (slot_read 0 1 (v / 8) rest) ∙ ap (code 2 Alloc 0) e;
         }
 
-    far : Encoded f 2 0 v (code_bytes 1 1 ++ long_bytes v)
+    far : Encoded f Alloc 0 v (code_bytes 1 1 ++ long_bytes v)
     far = record {
       slots = 3;
       some = omega arith;
       size = refl;
-      is = λ rest. code_read f 1 1 (long_bytes v ++ rest) (omega arith) ∙ ap (code 3 2 0) (long_read 0 17 v rest);
+      is = λ rest. code_read f 1 1 (long_bytes v ++ rest) (omega arith) ∙ ap (code 3 Alloc 0) (long_read 0 17 v rest);
     }
 
     go : (u s : Bool) → in_units v ≡ u → (leb 8 v && leb v 128) ≡ s
-        → Encoded f 2 0 v (cond u (cond s (code_bytes 2 (v / 8 - 1)) (code_bytes 1 0 ++ slot_bytes (v / 8))) (code_bytes 1 1 ++ long_bytes v))
+        → Encoded f Alloc 0 v (cond u (cond s (code_bytes 2 (v / 8 - 1)) (code_bytes 1 0 ++ slot_bytes (v / 8))) (code_bytes 1 1 ++ long_bytes v))
     go true true e q = small (rw q tt) (units v (rw e tt)).0
     go true false e q = near (units v (rw e tt)).0
     go false s e q = far
@@ -155,39 +163,39 @@ save_encoded f r v = go (in_units v) refl
     go false e = far
 
 -- every operation that can be encoded
-op_encoded : (f k r v : ℕ) → T (op_encodes f k r v) → Encoded f k r v (op_bytes k r v)
+op_encoded : (f k r v : ℕ) → T (op_encodes f k r v) → Read f k r v (op_bytes k r v)
 unfolding op_encodes op_bytes
 op_encoded f k r v h = go (eqb k 1) (eqb k 2) (eqb k 5) (eqb k 6) refl refl refl refl h
   where
     test : Bool → Bool → Bool → Bool → Bool
     test a b c d =
         cond a (ltb r 16 && eqb v 0) (cond b (eqb r 0 && ltb v (2 ^ 32)) (cond c (eqb r 0 && eqb v 0)
-        (cond d (eqb r 0 && leb v 1) (eqb k (save_kind f) && (ltb r 16 && ltb v (2 ^ 32))))))
+        (cond d (eqb r 0 && leb v 1) (eqb k (kind_number (save_kind f)) && (ltb r 16 && ltb v (2 ^ 32))))))
 
     bytes : Bool → Bool → Bool → Bool → List ℕ
     bytes a b c d = cond a (code_bytes 0 r) (cond b (alloc_bytes v) (cond c (code_bytes 3 0) (cond d (code_bytes 10 v) (save_bytes r v))))
 
-    go : (a b c d : Bool) → eqb k 1 ≡ a → eqb k 2 ≡ b → eqb k 5 ≡ c → eqb k 6 ≡ d → T (test a b c d) → Encoded f k r v (bytes a b c d)
+    go : (a b c d : Bool) → eqb k 1 ≡ a → eqb k 2 ≡ b → eqb k 5 ≡ c → eqb k 6 ≡ d → T (test a b c d) → Read f k r v (bytes a b c d)
     go true b c d p₁ p₂ p₅ p₆ h =
         let e : k ≡ 1 = eqb-true k 1 p₁ in
         let z : v ≡ 0 = eqb→eq v 0 (and_r (ltb r 16) _ h) in
-        rw (e, z) (push_encoded f r)
+        record { kind = PushNonVolatile; number = sym e; encoded = rw z (push_encoded f r) }
     go false true c d p₁ p₂ p₅ p₆ h =
         let e : k ≡ 2 = eqb-true k 2 p₂ in
         let z : r ≡ 0 = eqb→eq r 0 (and_l (eqb r 0) _ h) in
-        rw (e, z) (alloc_encoded f v)
+        record { kind = Alloc; number = sym e; encoded = rw z (alloc_encoded f v) }
     go false false true d p₁ p₂ p₅ p₆ h =
         let e : k ≡ 5 = eqb-true k 5 p₅ in
         let z : r ≡ 0 = eqb→eq r 0 (and_l (eqb r 0) _ h) in
         let y : v ≡ 0 = eqb→eq v 0 (and_r (eqb r 0) _ h) in
-        rw (e, z, y) (set_encoded f)
+        record { kind = SetFpRegister; number = sym e; encoded = rw (z, y) (set_encoded f) }
     go false false false true p₁ p₂ p₅ p₆ h =
         let e : k ≡ 6 = eqb-true k 6 p₆ in
         let z : r ≡ 0 = eqb→eq r 0 (and_l (eqb r 0) _ h) in
-        rw (e, z) (frame_encoded f v (leb→le v 1 (and_r (eqb r 0) _ h)))
+        record { kind = PushMachineFrame; number = sym e; encoded = rw z (frame_encoded f v (leb→le v 1 (and_r (eqb r 0) _ h))) }
     go false false false false p₁ p₂ p₅ p₆ h =
-        let e : k ≡ save_kind f = eqb→eq k (save_kind f) (and_l (eqb k (save_kind f)) _ h) in
-        rw e (save_encoded f r v)
+        let e : k ≡ kind_number (save_kind f) = eqb→eq k (kind_number (save_kind f)) (and_l (eqb k (kind_number (save_kind f))) _ h) in
+        record { kind = save_kind f; number = sym e; encoded = save_encoded f r v }
 
 -- ---- a body
 
@@ -240,7 +248,7 @@ module _ (f : ℕ) where
   ops_even (suc n) ws h =
       let m = more_ops n ws h in
       let e = op_encoded f (word ws 0) (word ws 1) (word ws 2) m.1.0 in
-      omega (arith, e.size, ops_even n (drop 3 ws) m.1.1, length-append (op_bytes (word ws 0) (word ws 1) (word ws 2)) (ops_bytes n (drop 3 ws)))
+      omega (arith, e.encoded.size, ops_even n (drop 3 ws) m.1.1, length-append (op_bytes (word ws 0) (word ws 1) (word ws 2)) (ops_bytes n (drop 3 ws)))
 
   no_words : (ws : List ℕ) → T (eqb (length ws) 0) → [] ≡ ws
   no_words [] h = refl
@@ -251,7 +259,7 @@ module _ (f : ℕ) where
   unfolding ops_bytes
   some n ws h =
       let x = op_encoded f (word ws 0) (word ws 1) (word ws 2) (more_ops n ws h).1.0 in
-      omega (arith, length-append (op_bytes (word ws 0) (word ws 1) (word ws 2)) (ops_bytes n (drop 3 ws)), x.size, x.some)
+      omega (arith, length-append (op_bytes (word ws 0) (word ws 1) (word ws 2)) (ops_bytes n (drop 3 ws)), x.encoded.size, x.encoded.some)
 
   -- the codes of the bytes are the operations
   ops_read : (n : ℕ) (ws : List ℕ) → T (ops_encode f n ws) → (k s : ℕ) → length (ops_bytes n ws) ≡ 2 * s → s ≤ k
@@ -264,7 +272,7 @@ module _ (f : ℕ) where
   ops_read (suc n) ws h (suc k) zero e l = absurd (omega (arith, e, some n ws h))
   ops_read (suc n) ws h (suc k) (suc s) e l =
       let ih = ops_read n (drop 3 ws) m.1.1 k (suc s - x.slots) (omega (arith, sum, e)) (omega (arith, x.some, l)) in
-      rw (x.is more, le-leb 1 x.slots x.some, le-leb x.slots (suc s) fits, drop_at bytes more (2 * x.slots) x.size)
+      rw (x.is more, le-leb 1 x.slots x.some, le-leb x.slots (suc s) fits, drop_at bytes more (2 * x.slots) x.size, r.number)
       (ap (λ (l : List ℕ). word ws 0 ∷ word ws 1 ∷ word ws 2 ∷ l) ih.0 ∙ three ws m.0, ap suc ih.1)
     where
       m : (3 ≤ length ws) × (T (op_encodes f (word ws 0) (word ws 1) (word ws 2)) × T (ops_encode f n (drop 3 ws)))
@@ -276,8 +284,11 @@ module _ (f : ℕ) where
       more : List ℕ
       more = ops_bytes n (drop 3 ws)
 
-      x : Encoded f (word ws 0) (word ws 1) (word ws 2) bytes
-      x = op_encoded f (word ws 0) (word ws 1) (word ws 2) m.1.0
+      r : Read f (word ws 0) (word ws 1) (word ws 2) bytes
+      r = op_encoded f (word ws 0) (word ws 1) (word ws 2) m.1.0
+
+      x : Encoded f r.kind (word ws 1) (word ws 2) bytes
+      x = r.encoded
 
       sum : length (bytes ++ more) ≡ 2 * x.slots + length more
       sum = omega (arith, length-append bytes more, x.size)
@@ -388,14 +399,14 @@ op_bytes_lem f k r v h = go (eqb k 1) (eqb k 2) (eqb k 5) (eqb k 6) h
   where
     go : (a b c d : Bool)
         → T (cond a (ltb r 16 && eqb v 0) (cond b (eqb r 0 && ltb v (2 ^ 32)) (cond c (eqb r 0 && eqb v 0)
-        (cond d (eqb r 0 && leb v 1) (eqb k (save_kind f) && (ltb r 16 && ltb v (2 ^ 32)))))))
+        (cond d (eqb r 0 && leb v 1) (eqb k (kind_number (save_kind f)) && (ltb r 16 && ltb v (2 ^ 32)))))))
         → T (are_bytes (cond a (code_bytes 0 r) (cond b (alloc_bytes v) (cond c (code_bytes 3 0) (cond d (code_bytes 10 v) (save_bytes r v))))))
     go true b c d h = code_bytes_lem 0 r (omega arith) (ltb→lt r 16 (and_l (ltb r 16) _ h))
     go false true c d h = alloc_bytes_lem v (ltb→lt v (2 ^ 32) (and_r (eqb r 0) _ h))
     go false false true d h = tt
     go false false false true h = code_bytes_lem 10 v (omega arith) (omega (arith, leb→le v 1 (and_r (eqb r 0) _ h)))
     go false false false false h =
-        let t = and_r (eqb k (save_kind f)) _ h in
+        let t = and_r (eqb k (kind_number (save_kind f))) _ h in
         save_bytes_lem r v (ltb→lt r 16 (and_l (ltb r 16) _ t)) (ltb→lt v (2 ^ 32) (and_r (ltb r 16) _ t))
 
 ops_bytes_lem : (f n : ℕ) (ws : List ℕ) → T (ops_encode f n ws) → T (are_bytes (ops_bytes n ws))

@@ -1,73 +1,116 @@
--- The forms that the code's loops walk: a code with the slots that it takes, the codes and parts that are left. And what the check of the headers gives.
-use Rattle.std.specs.Prelude.{◌≡◌, Bool, true, false, cond, ◌&&◌, ◌||◌, List, [], ◌∷◌, length, get_or, drop, T, eqb, ltb, leb}
+-- The forms that the code's iterators walk: the first code and the operations behind it, the first part and those behind it.
+use Rattle.std.specs.Prelude.{◌≡◌, Bool, true, false, cond, ◌&&◌, List, [], ◌∷◌, Option, Some, None, length, get_or, take, drop, T, eqb, ltb, leb}
 use Rattle.std.proofs.Math.Path.{refl}
-use Rattle.std.proofs.Common.{ap, arith, length-drop, get_or-drop, eqb→eq, leb→le, lt-ltb, le-ltb, ltb-false, eq-eqb, ne_eqb}
+use Rattle.std.proofs.Common.{sym, ap, ◌∙◌, arith, length-drop, leb→le, lt-ltb, le-ltb, ltb-false, eq-eqb, ne_eqb}
 use Prim.Native.Nat.{ℕ, zero, suc, ◌+◌, ◌-◌, ◌*◌, ◌/◌, ◌%◌, ◌≤◌, ◌<◌}
-use Rattle.std.proofs.Math.Decide.{dec_lt}
-use Rattle.std.proofs.Math.ListN.{get_or-eq_default}
+use Rattle.std.proofs.Math.ListN.{get_or-map}
+use Rattle.std.proofs.lemmas.List.{get_or-take, drop-take, length-take-le}
 use Rattle.std.proofs.Math.Dec.{eqb-suc-zero}
-use Rattle.text.specs.Tests.{and_l, and_r, at, Others, others}
+use Rattle.text.specs.Tests.{and_l, and_r}
+use Rattle.unwind_info.specs.declared.Operation.{Operation}
 use Rattle.unwind_info.specs.declared.UnwindCode.{UnwindCode}
-use Rattle.unwind_info.specs.declared.Checked.{Checked}
-use Rattle.unwind_info.specs.UnwindInfo.{byte, slot_at, long_at, slot_count, part_size, code, undecodable, codes, code_at, within, codes_in, codes_of, op_words}
-use Rattle.unwind_info.specs.UnwindInfo.{info_words, parts_in, parts, infos_words, part_number, x64_number}
+use Rattle.unwind_info.specs.declared.OpKind.TheVariants.{Alloc}
+use Rattle.unwind_info.specs.UnwindInfo.{byte, slot_at, long_at, slot_count, part_size, undecodable, code, slots_of}
+use Rattle.unwind_info.specs.UnwindInfo.{operation_of, alloc_large, push_machframe, codes, code_at, within, codes_in, codes_of, op_words}
+use Rattle.unwind_info.specs.UnwindInfo.{info_words, parts_in, parts, part_number}
 
--- ---- a code by its place
+-- ---- the table
 
-slot_drop : (bs : List ℕ) (i j : ℕ) → slot_at (drop i bs) j ≡ slot_at bs (i + j)
-unfolding slot_at
-slot_drop bs i j = let e : i + (j + 1) ≡ i + j + 1 = omega arith in rw (get_or-drop i bs j 0, get_or-drop i bs (j + 1) 0, e)
+-- an entry of the table uses the slot behind it only where it takes two, both only where it takes three, and set frame no info
+module _ (f i i' near near' far far' : ℕ) where
+  -- of operation code c, x of one table and y of the other
+  abbrev Uses : ℕ → Option UnwindCode → Option UnwindCode → Type 0
+  Uses c x y = ((c ≡ 3 → ⊥) → i ≡ i') → (slots_of x ≡ 2 → near ≡ near') → (slots_of x ≡ 3 → far ≡ far') → x ≡ y
 
-long_drop : (bs : List ℕ) (i j : ℕ) → long_at (drop i bs) j ≡ long_at bs (i + j)
-unfolding long_at
-long_drop bs i j = let e : i + (j + 2) ≡ i + j + 2 = omega arith in rw (slot_drop bs i j, slot_drop bs i (j + 2), e)
+  -- of the codes from c on
+  abbrev UsesFrom : ℕ → List (Option UnwindCode) → List (Option UnwindCode) → Type 0
+  UsesFrom c [] [] = Unit
+  UsesFrom c [] (y ∷ ys) = ⊥
+  UsesFrom c (x ∷ xs) [] = ⊥
+  UsesFrom c (x ∷ xs) (y ∷ ys) = Uses c x y × UsesFrom (suc c) xs ys
 
-pub code_drop : (f : ℕ) (bs : List ℕ) (i : ℕ)
-    → code_at f (drop i bs) ≡ get_or (codes f (byte bs (i + 1) / 16) (slot_at bs (i + 2)) (long_at bs (i + 2))) (byte bs (i + 1) % 16) undecodable
-unfolding code_at
-code_drop f bs i = rw (get_or-drop i bs 1 0, slot_drop bs i 2, long_drop bs i 2)
+  entry_of : (c n : ℕ) (xs ys : List (Option UnwindCode)) → UsesFrom c xs ys → Uses (c + n) (get_or xs n None) (get_or ys n None)
+  entry_of c n [] [] h e p q = refl
+  entry_of c n [] (y ∷ ys) h e p q = absurd h
+  entry_of c n (x ∷ xs) [] h e p q = absurd h
+  entry_of c zero (x ∷ xs) (y ∷ ys) h e p q = let z : c + 0 ≡ c = omega arith in h.0 (rw z at e) p q
+  entry_of c (suc n) (x ∷ xs) (y ∷ ys) h e p q = let z : c + suc n ≡ suc c + n = omega arith in entry_of (suc c) n xs ys h.1 (rw z at e) p q
 
--- the codes that the page names, up to 10
-abbrev named : ℕ → Bool
-named c = ltb c 6 || leb 8 c
+  alloc : i ≡ i' → (slots_of (alloc_large i near far) ≡ 2 → near ≡ near') → (slots_of (alloc_large i near far) ≡ 3 → far ≡ far')
+      → alloc_large i near far ≡ alloc_large i' near' far'
+  alloc e n g = go (eqb i 0) (eqb i 1) refl refl
+    where
+      go : (s t : Bool) → eqb i 0 ≡ s → eqb i 1 ≡ t → alloc_large i near far ≡ alloc_large i' near' far'
+      go true t p q = rw (← e, n (rw p refl), p)
+      go false true p q = rw (← e, g (rw (p, q) refl), p, q)
+      go false false p q = rw (← e, p, q)
 
-abbrev is_undecodable : UnwindCode → Bool
-is_undecodable u = eqb u.slots 0 && (eqb u.kind 8 && (eqb u.register 0 && eqb u.value 0))
+  same_table : UsesFrom 0 (codes f i near far) (codes f i' near' far')
+  unfolding codes
+  same_table = (
+    λ e p q. rw (e (λ z. omega (arith, z))),
+    (
+      λ e p q. alloc (e (λ z. omega (arith, z))) p q,
+      (
+        λ e p q. rw (e (λ z. omega (arith, z))),
+        (
+          λ e p q. refl,
+          (
+            λ e p q. rw (e (λ z. omega (arith, z)), p refl),
+            (
+              λ e p q. rw (e (λ z. omega (arith, z)), q refl),
+              (
+                λ e p q. refl,
+                (
+                  λ e p q. refl,
+                  (
+                    λ e p q. refl,
+                    (
+                      λ e p q. refl,
+                      (λ e p q. rw (e (λ z. omega (arith, z))), tt),
+                    ),
+                  ),
+                ),
+              ),
+            ),
+          ),
+        ),
+      ),
+    ),
+  )
 
-is_undecodable_lem : (u : UnwindCode) → T (is_undecodable u) → u ≡ undecodable
-is_undecodable_lem u h =
-    let s : u.slots ≡ 0 = eqb→eq u.slots 0 (search (and_l, and_r)) in
-    let k : u.kind ≡ 8 = eqb→eq u.kind 8 (search (and_l, and_r)) in
-    let r : u.register ≡ 0 = eqb→eq u.register 0 (search (and_l, and_r)) in
-    let v : u.value ≡ 0 = eqb→eq u.value 0 (search (and_l, and_r)) in
-    rw (s, k, r, v)
+  pub same_entry : (c : ℕ) → Uses c (get_or (codes f i near far) c None) (get_or (codes f i' near' far') c None)
+  same_entry c = let z : 0 + c ≡ c = omega arith in rw z at (entry_of 0 c (codes f i near far) (codes f i' near' far') same_table)
 
--- a code that it does not name, as the last arm of a `match` is told it
-pub no_code : (f i near far c : ℕ) → Others named 11 c → get_or (codes f i near far) c undecodable ≡ undecodable
+-- how many slots it takes does not depend on what stands in them
+slots_same : (f i near near' far far' c : ℕ) → slots_of (get_or (codes f i near far) c None) ≡ slots_of (get_or (codes f i near' far') c None)
 unfolding codes
-no_code f i near far c h = elim (dec_lt c 11) [
-  | yes l ↦ is_undecodable_lem (entry c) (rw (others named 11 c h l) at (at 11 (λ (n : ℕ). named n || is_undecodable (entry n)) tt c l))
-  | no l ↦ get_or-eq_default (codes f i near far) undecodable {n = c} (omega arith)
-]
+slots_same f i near near' far far' c =
+    sym (get_or-map slots_of (codes f i near far) c None)
+    ∙ ap (λ (n : ℕ). get_or (1 ∷ n ∷ 1 ∷ 1 ∷ 2 ∷ 3 ∷ 0 ∷ 0 ∷ 2 ∷ 3 ∷ slots_of (push_machframe i) ∷ []) c 0) (alloc (eqb i 0) (eqb i 1))
+    ∙ get_or-map slots_of (codes f i near' far') c None
   where
-    entry : ℕ → UnwindCode
-    entry n = get_or (codes f i near far) n undecodable
+    alloc : (s t : Bool) → slots_of (cond s (code 2 Alloc 0 (8 * near)) (cond t (code 3 Alloc 0 far) None))
+        ≡ slots_of (cond s (code 2 Alloc 0 (8 * near')) (cond t (code 3 Alloc 0 far') None))
+    alloc true t = refl
+    alloc false true = refl
+    alloc false false = refl
 
--- ---- the codes of a part
+-- ---- the operations of a part
 
--- where n slots are left: one that is not is undecodable and takes all of them
-abbrev pub taken : ℕ → UnwindCode → UnwindCode
-taken n c = cond (within n c) c (code n 8 0 0)
+-- where n slots are left: none where it runs past them
+abbrev pub taken : ℕ → Option UnwindCode → Option UnwindCode
+taken n c = cond (within n c) c None
 
-pub within_slots : (n : ℕ) (c : UnwindCode) → T (within n c) → (1 ≤ c.slots) × (c.slots ≤ n)
-within_slots n c h = (leb→le 1 c.slots (and_l (leb 1 c.slots) _ h), leb→le c.slots n (and_r (leb 1 c.slots) _ h))
+pub within_slots : (n : ℕ) (c : Option UnwindCode) → T (within n c) → (1 ≤ slots_of c) × (slots_of c ≤ n)
+within_slots n c h = (leb→le 1 (slots_of c) (and_l (leb 1 (slots_of c)) _ h), leb→le (slots_of c) n (and_r (leb 1 (slots_of c)) _ h))
 
-pub taken_slots : (n : ℕ) (c : UnwindCode) → 0 < n → (1 ≤ (taken n c).slots) × ((taken n c).slots ≤ n)
-taken_slots n c h = go (within n c) refl
+pub taken_slots : {u : UnwindCode} (n : ℕ) (c : Option UnwindCode) → taken n c ≡ Some u → (1 ≤ u.slots) × (u.slots ≤ n)
+taken_slots {u} n c e = go (within n c) refl e
   where
-    go : (t : Bool) → within n c ≡ t → (1 ≤ (cond t c (code n 8 0 0)).slots) × ((cond t c (code n 8 0 0)).slots ≤ n)
-    go true e = within_slots n c (rw e tt)
-    go false e = (omega arith, omega arith)
+    go : (t : Bool) → within n c ≡ t → cond t c None ≡ Some u → (1 ≤ u.slots) × (u.slots ≤ n)
+    go true p q = let w = within_slots n c (rw p tt) in let s : slots_of c ≡ u.slots = ap slots_of q in (omega (arith, w), omega (arith, w))
+    go false p q = let z : ◌≡◌ {A = ℕ} 0 1 = cc in absurd (omega arith)
 
 module _ (f : ℕ) where
   -- with room enough the bound does not matter
@@ -80,66 +123,145 @@ module _ (f : ℕ) where
   codes_same (suc k) zero (suc n) bs p q = absurd (omega arith)
   codes_same (suc k) (suc m) zero bs p q = refl
   codes_same (suc k) (suc m) (suc n) bs p q =
-      go (within (suc n) c) refl (λ h. codes_same k m (suc n - c.slots) (drop (2 * c.slots) bs) (omega arith) (omega arith))
+      go (within (suc n) c) refl (λ h. codes_same k m (suc n - slots_of c) (drop (2 * slots_of c) bs) (omega arith) (omega arith))
     where
-      c : UnwindCode
+      c : Option UnwindCode
       c = code_at f bs
 
       go : (t : Bool) → within (suc n) c ≡ t
-          → (1 ≤ c.slots → codes_in k f (suc n - c.slots) (drop (2 * c.slots) bs) ≡ codes_in m f (suc n - c.slots) (drop (2 * c.slots) bs))
-          → cond t (c ∷ codes_in k f (suc n - c.slots) (drop (2 * c.slots) bs)) (undecodable ∷ [])
-          ≡ cond t (c ∷ codes_in m f (suc n - c.slots) (drop (2 * c.slots) bs)) (undecodable ∷ [])
-      go true e ih = ap (λ (l : List UnwindCode). c ∷ l) (ih (within_slots (suc n) c (rw e tt)).0)
+          → (1 ≤ slots_of c → codes_in k f (suc n - slots_of c) (drop (2 * slots_of c) bs) ≡ codes_in m f (suc n - slots_of c) (drop (2 * slots_of c) bs))
+          → cond t (operation_of c ∷ codes_in k f (suc n - slots_of c) (drop (2 * slots_of c) bs)) (undecodable ∷ [])
+          ≡ cond t (operation_of c ∷ codes_in m f (suc n - slots_of c) (drop (2 * slots_of c) bs)) (undecodable ∷ [])
+      go true e ih = ap (λ (l : List Operation). operation_of c ∷ l) (ih (within_slots (suc n) c (rw e tt)).0)
       go false e ih = refl
 
-  -- what is left behind the first code
-  abbrev pub behind : ℕ → List ℕ → List UnwindCode
-  behind n bs = codes_in (n - (taken n (code_at f bs)).slots) f (n - (taken n (code_at f bs)).slots) (drop (2 * (taken n (code_at f bs)).slots) bs)
+  -- those behind the first code
+  abbrev behind : ℕ → Option UnwindCode → List ℕ → List Operation
+  behind n None bs = []
+  behind n (Some c) bs = codes_in (n - c.slots) f (n - c.slots) (drop (2 * c.slots) bs)
 
-  pub record First (n : ℕ) (bs : List ℕ) : Type 0 where
-    pub words : op_words (codes_in n f n bs) ≡ (taken n (code_at f bs)).kind ∷ (taken n (code_at f bs)).register ∷ (taken n (code_at f bs)).value ∷ op_words (behind n bs)
-    pub count : length (codes_in n f n bs) ≡ suc (length (behind n bs))
-
-  -- the first code, and what is left behind it
-  pub codes_first : (n : ℕ) (bs : List ℕ) → 0 < n → First n bs
-  unfolding codes_in op_words
-  codes_first zero bs h = absurd (omega arith)
-  codes_first (suc n) bs h = go (within (suc n) c) refl
+  first_of : (c : Option UnwindCode) (n : ℕ) (bs : List ℕ)
+      → cond (within (suc n) c) (operation_of c ∷ codes_in n f (suc n - slots_of c) (drop (2 * slots_of c) bs)) (undecodable ∷ [])
+      ≡ operation_of (taken (suc n) c) ∷ behind (suc n) (taken (suc n) c) bs
+  first_of None n bs = refl
+  first_of (Some c) n bs = go (within (suc n) (Some c)) refl
     where
-      c : UnwindCode
-      c = code_at f bs
-
-      go : (t : Bool) → within (suc n) c ≡ t → First (suc n) bs
+      go : (t : Bool) → within (suc n) (Some c) ≡ t → cond t (c.operation ∷ codes_in n f (suc n - c.slots) (drop (2 * c.slots) bs)) (undecodable ∷ [])
+          ≡ operation_of (cond t (Some c) None) ∷ behind (suc n) (cond t (Some c) None) bs
       go true e =
-          let s = within_slots (suc n) c (rw e tt) in
-          let same = codes_same n (suc n - c.slots) (suc n - c.slots) (drop (2 * c.slots) bs) (omega (arith, s)) (omega arith) in
-          record {
-            words = rw e (ap (λ (l : List UnwindCode). c.kind ∷ c.register ∷ c.value ∷ op_words l) same);
-            count = rw e (ap (λ (l : List UnwindCode). suc (length l)) same);
-          }
-      go false e =
-          let z : suc n - suc n ≡ 0 = omega arith in
-          record { words = rw (e, z) refl; count = rw (e, z) refl }
+          let s = within_slots (suc n) (Some c) (rw e tt) in
+          ap (λ (l : List Operation). c.operation ∷ l) (codes_same n (suc n - c.slots) (suc n - c.slots) (drop (2 * c.slots) bs) (omega (arith, s)) (omega arith))
+      go false e = refl
 
--- there are no more codes than slots
+  codes_first : (n : ℕ) (bs : List ℕ) → 0 < n → codes_in n f n bs ≡ operation_of (taken n (code_at f bs)) ∷ behind n (taken n (code_at f bs)) bs
+  unfolding codes_in
+  codes_first zero bs h = absurd (omega arith)
+  codes_first (suc n) bs h = first_of (code_at f bs) n bs
+
+  -- those of slots to their end
+  abbrev pub operations : List ℕ → List Operation
+  operations bs = codes_in (length bs / 2) f (length bs / 2) bs
+
+  pub operations_none : operations [] ≡ []
+  unfolding codes_in
+  operations_none = refl
+
+  -- the first one, and those behind it: none behind one that is undecodable
+  pub operations_last : (bs : List ℕ) → 2 ≤ length bs → taken (length bs / 2) (code_at f bs) ≡ None → operations bs ≡ undecodable ∷ []
+  operations_last bs h e = codes_first (length bs / 2) bs (omega arith) ∙ rw e refl
+
+  pub operations_first : {c : UnwindCode} (bs : List ℕ) → 2 ≤ length bs → taken (length bs / 2) (code_at f bs) ≡ Some c
+      → operations bs ≡ c.operation ∷ operations (drop (2 * c.slots) bs)
+  operations_first {c} bs h e =
+      let n : length (drop (2 * c.slots) bs) / 2 ≡ length bs / 2 - c.slots = omega (arith, length-drop (2 * c.slots) bs) in
+      codes_first (length bs / 2) bs (omega arith) ∙ rw (e, n) refl
+
+-- there are no more operations than slots
 pub codes_few : (k f n : ℕ) (bs : List ℕ) → length (codes_in k f n bs) ≤ n
 unfolding codes_in
 codes_few zero f n bs = omega arith
 codes_few (suc k) f zero bs = omega arith
-codes_few (suc k) f (suc n) bs = go (within (suc n) c) refl (codes_few k f (suc n - c.slots) (drop (2 * c.slots) bs))
+codes_few (suc k) f (suc n) bs = go (within (suc n) c) refl (codes_few k f (suc n - slots_of c) (drop (2 * slots_of c) bs))
   where
-    c : UnwindCode
+    c : Option UnwindCode
     c = code_at f bs
 
-    go : (t : Bool) → within (suc n) c ≡ t → length (codes_in k f (suc n - c.slots) (drop (2 * c.slots) bs)) ≤ suc n - c.slots
-        → length (cond t (c ∷ codes_in k f (suc n - c.slots) (drop (2 * c.slots) bs)) (undecodable ∷ [])) ≤ suc n
+    go : (t : Bool) → within (suc n) c ≡ t → length (codes_in k f (suc n - slots_of c) (drop (2 * slots_of c) bs)) ≤ suc n - slots_of c
+        → length (cond t (operation_of c ∷ codes_in k f (suc n - slots_of c) (drop (2 * slots_of c) bs)) (undecodable ∷ [])) ≤ suc n
     go true e ih = omega (arith, ih, within_slots (suc n) c (rw e tt))
     go false e ih = omega arith
 
-pub ops_length : (cs : List UnwindCode) → length (op_words cs) ≡ 3 * length cs
+pub codes_few_of : (p : List ℕ) → length (codes_of p) ≤ slot_count p
+unfolding codes_of
+codes_few_of p = codes_few (slot_count p) (byte p 3 % 16) (slot_count p) (drop 4 p)
+
+pub ops_length : (os : List Operation) → length (op_words os) ≡ 3 * length os
 unfolding op_words
 ops_length [] = refl
-ops_length (c ∷ cs) = omega (arith, ops_length cs)
+ops_length (o ∷ os) = omega (arith, ops_length os)
+
+-- ---- what stands behind the slots does not matter
+
+module _ (n : ℕ) (bs : List ℕ) where
+  slot_cut : 4 ≤ n → slot_at bs 2 ≡ slot_at (take n bs) 2
+  unfolding slot_at
+  slot_cut h = rw (get_or-take n bs 2 0 (omega arith), get_or-take n bs 3 0 (omega arith))
+
+  long_cut : 6 ≤ n → long_at bs 2 ≡ long_at (take n bs) 2
+  unfolding long_at slot_at
+  long_cut h = rw (get_or-take n bs 2 0 (omega arith), get_or-take n bs 3 0 (omega arith), get_or-take n bs 4 0 (omega arith), get_or-take n bs 5 0 (omega arith))
+
+  slots_cut : (f : ℕ) → 2 ≤ n → slots_of (code_at f (take n bs)) ≡ slots_of (code_at f bs)
+  unfolding code_at
+  slots_cut f h =
+      rw (get_or-take n bs 1 0 (omega arith))
+      (slots_same f (byte bs 1 / 16) (slot_at (take n bs) 2) (slot_at bs 2) (long_at (take n bs) 2) (long_at bs 2) (byte bs 1 % 16))
+
+  code_cut : (f : ℕ) → 2 ≤ n → 2 * slots_of (code_at f bs) ≤ n → code_at f bs ≡ code_at f (take n bs)
+  unfolding code_at
+  code_cut f h l =
+      rw (get_or-take n bs 1 0 (omega arith))
+      (same_entry f (byte bs 1 / 16) (byte bs 1 / 16) (slot_at bs 2) (slot_at (take n bs) 2) (long_at bs 2) (long_at (take n bs) 2) (byte bs 1 % 16) (λ z. refl)
+      (λ z. slot_cut (omega (arith, z))) (λ z. long_cut (omega (arith, z))))
+
+codes_cut : (k f n : ℕ) (bs : List ℕ) → 2 * n ≤ length bs → codes_in k f n (take (2 * n) bs) ≡ codes_in k f n bs
+unfolding codes_in
+codes_cut zero f n bs h = refl
+codes_cut (suc k) f zero bs h = refl
+codes_cut (suc k) f (suc n) bs h =
+    go (within (suc n) c) refl
+    (λ (l : 2 * (suc n - slots_of c) ≤ length (drop (2 * slots_of c) bs)). codes_cut k f (suc n - slots_of c) (drop (2 * slots_of c) bs) l)
+  where
+    c : Option UnwindCode
+    c = code_at f bs
+
+    cut : Option UnwindCode
+    cut = code_at f (take (2 * suc n) bs)
+
+    rest : List ℕ → Option UnwindCode → List Operation
+    rest l u = codes_in k f (suc n - slots_of u) (drop (2 * slots_of u) l)
+
+    same : within (suc n) cut ≡ within (suc n) c
+    same = ap (λ (s : ℕ). leb 1 s && leb s (suc n)) (slots_cut (2 * suc n) bs f (omega arith))
+
+    go : (t : Bool) → within (suc n) c ≡ t
+        → (2 * (suc n - slots_of c) ≤ length (drop (2 * slots_of c) bs)
+        → codes_in k f (suc n - slots_of c) (take (2 * (suc n - slots_of c)) (drop (2 * slots_of c) bs)) ≡ rest bs c)
+        → cond (within (suc n) cut) (operation_of cut ∷ rest (take (2 * suc n) bs) cut) (undecodable ∷ []) ≡ cond (within (suc n) c) (operation_of c ∷ rest bs c) (undecodable ∷ [])
+    go true e ih =
+        let s = within_slots (suc n) c (rw e tt) in
+        let z : 2 * suc n ≡ 2 * slots_of c + 2 * (suc n - slots_of c) = omega (arith, s) in
+        let d : drop (2 * slots_of c) (take (2 * suc n) bs) ≡ take (2 * (suc n - slots_of c)) (drop (2 * slots_of c) bs) =
+        ap (λ (m : ℕ). drop (2 * slots_of c) (take m bs)) z ∙ drop-take (2 * slots_of c) (2 * (suc n - slots_of c)) bs in
+        rw (same, e, ← code_cut (2 * suc n) bs f (omega arith) (omega (arith, s)))
+        (ap (λ (l : List Operation). operation_of c ∷ l)
+        (ap (codes_in k f (suc n - slots_of c)) d ∙ ih (omega (arith, s, h, length-drop (2 * slots_of c) bs))))
+    go false e ih = rw (same, e) refl
+
+pub operations_cut : (f n : ℕ) (bs : List ℕ) → 2 * n ≤ length bs → operations f (take (2 * n) bs) ≡ codes_in n f n bs
+operations_cut f n bs h =
+    let e : length (take (2 * n) bs) / 2 ≡ n = omega (arith, length-take-le (2 * n) bs h) in
+    rw e (codes_cut n f n bs h)
 
 -- an info has three words, and three for each code; there are no more of these than slots
 pub info_size : (p : List ℕ) → length (info_words p) ≡ 3 + 3 * length (codes_of p)
@@ -147,8 +269,7 @@ unfolding info_words
 info_size p = omega (arith, ops_length (codes_of p))
 
 pub info_length : (p : List ℕ) → length (info_words p) ≤ 3 + 3 * slot_count p
-unfolding codes_of
-info_length p = omega (arith, info_size p, codes_few (slot_count p) (byte p 3 % 16) (slot_count p) (drop 4 p))
+info_length p = omega (arith, info_size p, codes_few_of p)
 
 -- ---- the parts
 
@@ -204,13 +325,3 @@ is_whole {v} {n} bs e s h l = rw (← e, eq-eqb (v % 8) 1 h, le-ltb (length bs) 
 pub zero_both : (n x : ℕ) → cond (eqb n 0) x n ≡ 0 → (n ≡ 0) × (x ≡ 0)
 zero_both zero x e = (refl, e)
 zero_both (suc n) x e = absurd (omega (arith, rw (eqb-suc-zero n) at e))
-
--- ---- the check of the headers
-
--- what it gives
-pub record Checks (bs : List ℕ) (r : Checked) : Type 0 where
-  pub number_is : r.number ≡ x64_number bs
-  pub parts_is : r.number ≡ 0 → r.parts ≡ length (parts bs)
-  pub few : r.number ≡ 0 → r.parts ≤ 32
-  pub slots_few : r.number ≡ 0 → r.slots ≤ 8160
-  pub most : r.number ≡ 0 → length (infos_words (parts bs)) ≤ 3 * r.parts + 3 * r.slots

@@ -1,11 +1,13 @@
 -- What decoding does not read: flags, the size of the prolog, code offsets, and the info of set frame (document 02, request 1).
 -- Bytes that are alike but for these come to the same.
-use Rattle.std.specs.Prelude.{◌≡◌, Bool, true, false, cond, List, [], ◌∷◌, ℕ, zero, suc, ◌+◌, ◌-◌, ◌*◌, ◌/◌, ◌%◌, ◌≤◌, ◌<◌, length, get_or, take, drop, T, eqb}
+use Rattle.std.specs.Prelude.{◌≡◌, Bool, true, false, cond, Option, None, List, [], ◌∷◌, ℕ, zero, suc, ◌+◌, ◌-◌, ◌*◌, ◌/◌, ◌%◌, ◌≤◌, ◌<◌, length, get_or, take, drop, T}
 use Rattle.std.proofs.Math.Path.{refl}
 use Rattle.std.proofs.Common.{sym, ap, ◌∙◌, subst, arith, get_or-take, get_or-drop, drop-drop}
+use Rattle.unwind_info.specs.declared.Operation.{Operation}
 use Rattle.unwind_info.specs.declared.UnwindCode.{UnwindCode}
-use Rattle.unwind_info.specs.UnwindInfo.{byte, slot_at, long_at, version, slot_count, part_size, undecodable, codes, code_at, within, codes_in, codes_of, op_words}
-use Rattle.unwind_info.specs.UnwindInfo.{alloc_large, info_words, parts_in, infos_words, x64_body, part_number, first_refused, x64_number, decoded}
+use Rattle.unwind_info.specs.UnwindInfo.{byte, slot_at, long_at, version, slot_count, part_size, undecodable, slots_of, operation_of, codes, code_at, within, codes_in, codes_of, op_words}
+use Rattle.unwind_info.specs.UnwindInfo.{info_words, parts_in, infos_words, x64_body, part_number, first_refused, x64_number, decoded}
+use Rattle.unwind_info.specs.Index.{same_entry}
 
 -- ---- alike
 
@@ -13,7 +15,7 @@ use Rattle.unwind_info.specs.UnwindInfo.{alloc_large, info_words, parts_in, info
 pub record AlikeCode (f : ℕ) (bs cs : List ℕ) : Type 0 where
   pub operation : byte bs 1 % 16 ≡ byte cs 1 % 16
   pub info : (byte bs 1 % 16 ≡ 3 → ⊥) → byte bs 1 / 16 ≡ byte cs 1 / 16
-  pub slots_behind : take (2 * (code_at f bs).slots - 2) (drop 2 bs) ≡ take (2 * (code_at f bs).slots - 2) (drop 2 cs)
+  pub slots_behind : take (2 * slots_of (code_at f bs) - 2) (drop 2 bs) ≡ take (2 * slots_of (code_at f bs) - 2) (drop 2 cs)
 
 -- the codes of n slots, as far as they are decoded
 unfoldable pub AlikeCodes : ℕ → ℕ → ℕ → List ℕ → List ℕ → Type 0
@@ -21,7 +23,7 @@ AlikeCodes zero f n bs cs = Unit
 AlikeCodes (suc k) f zero bs cs = Unit
 AlikeCodes (suc k) f (suc n) bs cs =
     AlikeCode f bs cs
-    × (T (within (suc n) (code_at f bs)) → AlikeCodes k f (suc n - (code_at f bs).slots) (drop (2 * (code_at f bs).slots) bs) (drop (2 * (code_at f bs).slots) cs))
+    × (T (within (suc n) (code_at f bs)) → AlikeCodes k f (suc n - slots_of (code_at f bs)) (drop (2 * slots_of (code_at f bs)) bs) (drop (2 * slots_of (code_at f bs)) cs))
 
 -- two parts: the version, the count of slots, the fourth byte, and the codes
 pub record AlikePart (bs cs : List ℕ) : Type 0 where
@@ -41,72 +43,6 @@ AlikeParts (suc k) (b ∷ bs) (c ∷ cs) =
     AlikePart (b ∷ bs) (c ∷ cs) × AlikeParts k (drop (part_size (b ∷ bs)) (b ∷ bs)) (drop (part_size (b ∷ bs)) (c ∷ cs))
 
 -- ---- codes
-
--- an entry of the table uses the slot behind it only where it takes two, both only where it takes three, and set frame no info
-module _ (f i i' near near' far far' : ℕ) where
-  -- of operation code c, x of one table and y of the other
-  abbrev Uses : ℕ → UnwindCode → UnwindCode → Type 0
-  Uses c x y = ((c ≡ 3 → ⊥) → i ≡ i') → (x.slots ≡ 2 → near ≡ near') → (x.slots ≡ 3 → far ≡ far') → x ≡ y
-
-  -- of the codes from c on
-  abbrev UsesFrom : ℕ → List UnwindCode → List UnwindCode → Type 0
-  UsesFrom c [] [] = Unit
-  UsesFrom c [] (y ∷ ys) = ⊥
-  UsesFrom c (x ∷ xs) [] = ⊥
-  UsesFrom c (x ∷ xs) (y ∷ ys) = Uses c x y × UsesFrom (suc c) xs ys
-
-  entry_of : (c n : ℕ) (xs ys : List UnwindCode) → UsesFrom c xs ys → Uses (c + n) (get_or xs n undecodable) (get_or ys n undecodable)
-  entry_of c n [] [] h e p q = refl
-  entry_of c n [] (y ∷ ys) h e p q = absurd h
-  entry_of c n (x ∷ xs) [] h e p q = absurd h
-  entry_of c zero (x ∷ xs) (y ∷ ys) h e p q = let z : c + 0 ≡ c = omega arith in h.0 (rw z at e) p q
-  entry_of c (suc n) (x ∷ xs) (y ∷ ys) h e p q = let z : c + suc n ≡ suc c + n = omega arith in entry_of (suc c) n xs ys h.1 (rw z at e) p q
-
-  alloc : i ≡ i' → ((alloc_large i near far).slots ≡ 2 → near ≡ near') → ((alloc_large i near far).slots ≡ 3 → far ≡ far')
-      → alloc_large i near far ≡ alloc_large i' near' far'
-  alloc e n g = go (eqb i 0) (eqb i 1) refl refl
-    where
-      go : (s t : Bool) → eqb i 0 ≡ s → eqb i 1 ≡ t → alloc_large i near far ≡ alloc_large i' near' far'
-      go true t p q = rw (← e, n (rw p refl), p)
-      go false true p q = rw (← e, g (rw (p, q) refl), p, q)
-      go false false p q = rw (← e, p, q)
-
-  same_table : UsesFrom 0 (codes f i near far) (codes f i' near' far')
-  unfolding codes
-  same_table = (
-    λ e p q. rw (e (λ z. omega (arith, z))),
-    (
-      λ e p q. alloc (e (λ z. omega (arith, z))) p q,
-      (
-        λ e p q. rw (e (λ z. omega (arith, z))),
-        (
-          λ e p q. refl,
-          (
-            λ e p q. rw (e (λ z. omega (arith, z)), p refl),
-            (
-              λ e p q. rw (e (λ z. omega (arith, z)), q refl),
-              (
-                λ e p q. refl,
-                (
-                  λ e p q. refl,
-                  (
-                    λ e p q. refl,
-                    (
-                      λ e p q. refl,
-                      (λ e p q. rw (e (λ z. omega (arith, z))), tt),
-                    ),
-                  ),
-                ),
-              ),
-            ),
-          ),
-        ),
-      ),
-    ),
-  )
-
-  same_entry : (c : ℕ) → Uses c (get_or (codes f i near far) c undecodable) (get_or (codes f i' near' far') c undecodable)
-  same_entry c = let z : 0 + c ≡ c = omega arith in rw z at (entry_of 0 c (codes f i near far) (codes f i' near' far') same_table)
 
 -- the bytes of slots that are the same in front
 same_byte : (n i : ℕ) (bs cs : List ℕ) → take n (drop 2 bs) ≡ take n (drop 2 cs) → i < n → byte bs (2 + i) ≡ byte cs (2 + i)
@@ -129,34 +65,34 @@ same_code : (f : ℕ) (bs cs : List ℕ) → AlikeCode f bs cs → code_at f bs 
 unfolding code_at
 same_code f bs cs a =
     same_entry f (byte bs 1 / 16) (byte cs 1 / 16) (slot_at bs 2) (slot_at cs 2) (long_at bs 2) (long_at cs 2) (byte bs 1 % 16) a.info near far
-    ∙ ap (λ (n : ℕ). get_or (codes f (byte cs 1 / 16) (slot_at cs 2) (long_at cs 2)) n undecodable) a.operation
+    ∙ ap (λ (n : ℕ). get_or (codes f (byte cs 1 / 16) (slot_at cs 2) (long_at cs 2)) n None) a.operation
   where
-    c : UnwindCode
-    c = get_or (codes f (byte bs 1 / 16) (slot_at bs 2) (long_at bs 2)) (byte bs 1 % 16) undecodable
+    c : Option UnwindCode
+    c = get_or (codes f (byte bs 1 / 16) (slot_at bs 2) (long_at bs 2)) (byte bs 1 % 16) None
 
-    near : c.slots ≡ 2 → slot_at bs 2 ≡ slot_at cs 2
-    near z = same_slot (2 * c.slots - 2) bs cs a.slots_behind (omega (arith, z))
+    near : slots_of c ≡ 2 → slot_at bs 2 ≡ slot_at cs 2
+    near z = same_slot (2 * slots_of c - 2) bs cs a.slots_behind (omega (arith, z))
 
-    far : c.slots ≡ 3 → long_at bs 2 ≡ long_at cs 2
-    far z = same_long (2 * c.slots - 2) bs cs a.slots_behind (omega (arith, z))
+    far : slots_of c ≡ 3 → long_at bs 2 ≡ long_at cs 2
+    far z = same_long (2 * slots_of c - 2) bs cs a.slots_behind (omega (arith, z))
 
 same_codes : (k f n : ℕ) (bs cs : List ℕ) → AlikeCodes k f n bs cs → codes_in k f n bs ≡ codes_in k f n cs
 unfolding codes_in AlikeCodes
 same_codes zero f n bs cs a = refl
 same_codes (suc k) f zero bs cs a = refl
 same_codes (suc k) f (suc n) bs cs a =
-    go (within (suc n) c) refl (λ h. same_codes k f (suc n - c.slots) (drop (2 * c.slots) bs) (drop (2 * c.slots) cs) (a.1 h))
-    ∙ ap (λ (u : UnwindCode). cond (within (suc n) u) (u ∷ codes_in k f (suc n - u.slots) (drop (2 * u.slots) cs)) (undecodable ∷ [])) (same_code f bs cs a.0)
+    go (within (suc n) c) refl (λ h. same_codes k f (suc n - slots_of c) (drop (2 * slots_of c) bs) (drop (2 * slots_of c) cs) (a.1 h))
+    ∙ ap (λ (u : Option UnwindCode). cond (within (suc n) u) (operation_of u ∷ codes_in k f (suc n - slots_of u) (drop (2 * slots_of u) cs)) (undecodable ∷ [])) (same_code f bs cs a.0)
   where
-    c : UnwindCode
+    c : Option UnwindCode
     c = code_at f bs
 
-    rest : List ℕ → List UnwindCode
-    rest l = codes_in k f (suc n - c.slots) (drop (2 * c.slots) l)
+    rest : List ℕ → List Operation
+    rest l = codes_in k f (suc n - slots_of c) (drop (2 * slots_of c) l)
 
     go : (t : Bool) → within (suc n) c ≡ t → (T (within (suc n) c) → rest bs ≡ rest cs)
-        → cond t (c ∷ rest bs) (undecodable ∷ []) ≡ cond t (c ∷ rest cs) (undecodable ∷ [])
-    go true e ih = ap (λ (l : List UnwindCode). c ∷ l) (ih (rw e tt))
+        → cond t (operation_of c ∷ rest bs) (undecodable ∷ []) ≡ cond t (operation_of c ∷ rest cs) (undecodable ∷ [])
+    go true e ih = ap (λ (l : List Operation). operation_of c ∷ l) (ih (rw e tt))
     go false e ih = refl
 
 -- ---- parts
@@ -164,7 +100,7 @@ same_codes (suc k) f (suc n) bs cs a =
 same_info : (bs cs : List ℕ) → AlikePart bs cs → info_words bs ≡ info_words cs
 unfolding info_words codes_of
 same_info bs cs a =
-    ap (λ (l : List UnwindCode). byte bs 3 % 16 ∷ byte bs 3 / 16 * 16 ∷ length l ∷ op_words l)
+    ap (λ (l : List Operation). byte bs 3 % 16 ∷ byte bs 3 / 16 * 16 ∷ length l ∷ op_words l)
     (same_codes (slot_count bs) (byte bs 3 % 16) (slot_count bs) (drop 4 bs) (drop 4 cs) a.codes_are)
     ∙ rw (a.frame_is, a.count_is) refl
 
@@ -206,7 +142,7 @@ codes_alike zero f n bs = tt
 codes_alike (suc k) f zero bs = tt
 codes_alike (suc k) f (suc n) bs = (
   record { operation = refl; info = λ h. refl; slots_behind = refl },
-  λ h. codes_alike k f (suc n - (code_at f bs).slots) (drop (2 * (code_at f bs).slots) bs),
+  λ h. codes_alike k f (suc n - slots_of (code_at f bs)) (drop (2 * slots_of (code_at f bs)) bs),
 )
 
 parts_alike : (k : ℕ) (bs : List ℕ) → AlikeParts k bs bs

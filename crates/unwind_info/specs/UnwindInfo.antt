@@ -1,7 +1,10 @@
 -- UNWIND_INFO of an x64 image to the words of an x64 body (document 02, request 1), by Microsoft's page on x64 exception handling, version 1.
 -- A byte that is missing reads 0.
-use Rattle.std.specs.Prelude.{Bool, cond, ◌&&◌, List, [], ◌∷◌, ◌++◌, ℕ, zero, suc, ◌+◌, ◌-◌, ◌*◌, ◌/◌, ◌%◌, length, get_or, drop, eqb, ltb, leb}
+use Rattle.std.specs.Prelude.{Bool, cond, ◌&&◌, List, [], ◌∷◌, ◌++◌, ℕ, zero, suc, ◌+◌, ◌-◌, ◌*◌, ◌/◌, ◌%◌, Option, Some, None, length, get_or, drop, eqb, ltb, leb}
 use Rattle.fill.specs.Fill.{Fill, refused, roomed}
+use Rattle.unwind_info.specs.declared.OpKind.{OpKind}
+use Rattle.unwind_info.specs.declared.OpKind.TheVariants.{PushNonVolatile, Alloc, SaveRsp, SaveFp, SetFpRegister, PushMachineFrame, Other, Undecodable}
+use Rattle.unwind_info.specs.declared.Operation.{Operation}
 use Rattle.unwind_info.specs.declared.UnwindCode.{UnwindCode}
 
 -- ---- bytes and slots
@@ -35,71 +38,100 @@ frame_offset bs = byte bs 3 / 16 * 16
 abbrev pub part_size : List ℕ → ℕ
 part_size bs = 4 + 2 * slot_count bs
 
+-- ---- operations
+
+abbrev pub op : OpKind → ℕ → ℕ → Operation
+op k r v = record { kind = k; register = r; value = v }
+
+-- what becomes of a code or an info that the page does not define, and of slots that run past the count
+abbrev pub undecodable : Operation
+undecodable = op Undecodable 0 0
+
 -- ---- operation codes
 
--- its slots; kind, register and value of the operation
-abbrev pub code : ℕ → ℕ → ℕ → ℕ → UnwindCode
-code s k r v = record { slots = s; kind = k; register = r; value = v }
+-- a code: its slots; kind, register and value of the operation. None is one that the page does not define
+abbrev pub code : ℕ → OpKind → ℕ → ℕ → Option UnwindCode
+code s k r v = Some (record { slots = s; operation = op k r v })
 
--- a code or an info that the page does not define, or slots that run past the count
-abbrev pub undecodable : UnwindCode
-undecodable = code 0 8 0 0
+abbrev pub slots_of : Option UnwindCode → ℕ
+slots_of None = 0
+slots_of (Some c) = c.slots
+
+abbrev pub operation_of : Option UnwindCode → Operation
+operation_of None = undecodable
+operation_of (Some c) = c.operation
 
 -- saves are relative to the frame register where there is one
-abbrev pub save_kind : ℕ → ℕ
-save_kind f = cond (eqb f 0) 3 4
+abbrev pub save_kind : ℕ → OpKind
+save_kind f = cond (eqb f 0) SaveRsp SaveFp
 
 -- info 0: one slot, in units of 8; info 1: two slots as they are
-abbrev pub alloc_large : ℕ → ℕ → ℕ → UnwindCode
-alloc_large i near far = cond (eqb i 0) (code 2 2 0 (8 * near)) (cond (eqb i 1) (code 3 2 0 far) undecodable)
+abbrev pub alloc_large : ℕ → ℕ → ℕ → Option UnwindCode
+alloc_large i near far = cond (eqb i 0) (code 2 Alloc 0 (8 * near)) (cond (eqb i 1) (code 3 Alloc 0 far) None)
 
 -- info 1: with an error code; info 0: without
-abbrev pub push_machframe : ℕ → UnwindCode
-push_machframe i = cond (leb i 1) (code 1 6 0 i) undecodable
+abbrev pub push_machframe : ℕ → Option UnwindCode
+push_machframe i = cond (leb i 1) (code 1 PushMachineFrame 0 i) None
 
 -- the page's table by operation code, each with slots, kind, register and value: f the frame register, i the info, near the slot behind the
 -- code's own, far the two slots behind it
-unfoldable pub codes : ℕ → ℕ → ℕ → ℕ → List UnwindCode
+unfoldable pub codes : ℕ → ℕ → ℕ → ℕ → List (Option UnwindCode)
 codes f i near far =
-    code 1 1 i 0  -- 0 PUSH_NONVOL
+    code 1 PushNonVolatile i 0  -- 0 PUSH_NONVOL
     ∷ alloc_large i near far  -- 1 ALLOC_LARGE
-    ∷ code 1 2 0 (8 * i + 8)  -- 2 ALLOC_SMALL
-    ∷ code 1 5 0 0  -- 3 SET_FPREG
+    ∷ code 1 Alloc 0 (8 * i + 8)  -- 2 ALLOC_SMALL
+    ∷ code 1 SetFpRegister 0 0  -- 3 SET_FPREG
     ∷ code 2 (save_kind f) i (8 * near)  -- 4 SAVE_NONVOL
     ∷ code 3 (save_kind f) i far  -- 5 SAVE_NONVOL_FAR
-    ∷ undecodable  -- 6
-    ∷ undecodable  -- 7
-    ∷ code 2 7 0 0  -- 8 SAVE_XMM128
-    ∷ code 3 7 0 0  -- 9 SAVE_XMM128_FAR
+    ∷ None  -- 6
+    ∷ None  -- 7
+    ∷ code 2 Other 0 0  -- 8 SAVE_XMM128
+    ∷ code 3 Other 0 0  -- 9 SAVE_XMM128_FAR
     ∷ push_machframe i  -- 10 PUSH_MACHFRAME
     ∷ []  -- 11 to 15
 
 -- the code in the slot that bs starts with: the code offset is not read; operation code in the low 4 bits, info in the high
-unfoldable pub code_at : ℕ → List ℕ → UnwindCode
-code_at f bs = get_or (codes f (byte bs 1 / 16) (slot_at bs 2) (long_at bs 2)) (byte bs 1 % 16) undecodable
+unfoldable pub code_at : ℕ → List ℕ → Option UnwindCode
+code_at f bs = get_or (codes f (byte bs 1 / 16) (slot_at bs 2) (long_at bs 2)) (byte bs 1 % 16) None
 
 -- it is defined, and its slots do not run past n
-abbrev pub within : ℕ → UnwindCode → Bool
-within n c = leb 1 c.slots && leb c.slots n
+abbrev pub within : ℕ → Option UnwindCode → Bool
+within n c = leb 1 (slots_of c) && leb (slots_of c) n
 
--- the codes of n slots, from the first of them on; an undecodable one is the last. Each has a slot, so that there are at most k, from k = n on
-unfoldable pub codes_in : ℕ → ℕ → ℕ → List ℕ → List UnwindCode
+-- the operations of n slots, from the first of them on; an undecodable one is the last. Each code has a slot, so that there are at most k, from
+-- k = n on
+unfoldable pub codes_in : ℕ → ℕ → ℕ → List ℕ → List Operation
 codes_in zero f n bs = []
 codes_in (suc k) f zero bs = []
 codes_in (suc k) f (suc n) bs =
     let c = code_at f bs in
-    cond (within (suc n) c) (c ∷ codes_in k f (suc n - c.slots) (drop (2 * c.slots) bs)) (undecodable ∷ [])
+    cond (within (suc n) c) (operation_of c ∷ codes_in k f (suc n - slots_of c) (drop (2 * slots_of c) bs)) (undecodable ∷ [])
 
 -- those of a part
-unfoldable pub codes_of : List ℕ → List UnwindCode
+unfoldable pub codes_of : List ℕ → List Operation
 codes_of bs = codes_in (slot_count bs) (frame_register bs) (slot_count bs) (drop 4 bs)
 
 -- ---- the body's words
 
--- kind, register, value of each
-unfoldable pub op_words : List UnwindCode → List ℕ
+-- a kind's number (docs/BOOK.md)
+abbrev pub kind_number : OpKind → ℕ
+kind_number PushNonVolatile = 1
+kind_number Alloc = 2
+kind_number SaveRsp = 3
+kind_number SaveFp = 4
+kind_number SetFpRegister = 5
+kind_number PushMachineFrame = 6
+kind_number Other = 7
+kind_number Undecodable = 8
+
+-- kind, register, value
+abbrev pub words_of : Operation → List ℕ
+words_of o = kind_number o.kind ∷ o.register ∷ o.value ∷ []
+
+-- of each
+unfoldable pub op_words : List Operation → List ℕ
 op_words [] = []
-op_words (c ∷ cs) = c.kind ∷ c.register ∷ c.value ∷ op_words cs
+op_words (o ∷ os) = words_of o ++ op_words os
 
 -- an info: frame register, frame offset, operation count, operations
 unfoldable pub info_words : List ℕ → List ℕ

@@ -1,25 +1,29 @@
 -- What is true of every decoded body (document 02, request 1): it keeps the x64 layout, so that refusal 4 never meets it; the words that a kind
 -- does not use are 0; it has at most 24,580 words; and what stood in the room does not matter.
-use Rattle.std.specs.Prelude.{◌≡◌, refl, Bool, false, cond, ◌&&◌, ◌||◌, get_or, take, drop, eqb, ltb, leb}
-use Rattle.std.proofs.Common.{sym, ap, ◌∙◌, arith, length-append, get_or-append-add, ltb→lt, lt→ltb, leb→le, le→leb}
+use Rattle.std.specs.Prelude.{◌≡◌, refl, Bool, false, cond, ◌&&◌, ◌||◌, Option, Some, None, Result, Ok, Err, get_or, take, drop, eqb, ltb, leb}
+use Rattle.std.proofs.Common.{ap, arith, length-append, get_or-append-add, ltb→lt, lt→ltb, leb→le, le→leb}
 use Rattle.std.proofs.Math.Bool.{true}
-use Rattle.std.proofs.lemmas.Bool.{false≢true}
 use mathlib.Core.List.{List, [], ◌∷◌, ◌++◌, append_assoc, append-nil}
 use Prim.Native.Nat.{ℕ, zero, suc, ◌+◌, ◌-◌, ◌*◌, ◌/◌, ◌%◌, ◌≤◌, ◌<◌}
 use Rattle.std.proofs.Math.ListN.{length}
 use Rattle.std.proofs.Math.Seq.{get_or-append_seam}
 use Rattle.std.proofs.Math.Dec.{T, eqb_refl}
 use Rattle.text.specs.Tests.{is_true, and_l, and_r, both, either, all}
-use Rattle.entry.specs.Entry.{word}
-use Rattle.entry.specs.declared.Judged.{Judged}
-use Rattle.entry.specs.declared.Judged.TheVariants.{Refuse, Skip, Write}
+use Rattle.entry.specs.Entry.{Judged, word}
+use Rattle.entry.specs.Entry.Laws.{reached}
+use Rattle.entry.specs.declared.Fate.TheVariants.{Skip}
+use Rattle.refusal.specs.declared.Refusal.{Refusal}
+use Rattle.refusal.specs.declared.Refusal.TheVariants.{Layout, Chain, Reach, Frame}
+use Rattle.refusal.specs.Refusal.{answer_number}
 use Rattle.x64.specs.X64.{op_fits, ops_fit, info_fits, infos_fit, x64_layout, x64_skipped, x64_reach, x64_judged, in_reach, set_count, chain}
-use Rattle.fill.specs.declared.Filled.{Filled}
 use Rattle.fill.specs.Fill.{Fills}
-use Rattle.fill.specs.Fill.Laws.{filled_alike}
+use Rattle.fill.specs.Fill.Laws.{count, filled_alike}
+use Rattle.unwind_info.specs.declared.OpKind.{OpKind}
+use Rattle.unwind_info.specs.declared.OpKind.TheVariants.{Alloc, SaveRsp, SaveFp, PushMachineFrame}
+use Rattle.unwind_info.specs.declared.Operation.{Operation}
 use Rattle.unwind_info.specs.declared.UnwindCode.{UnwindCode}
-use Rattle.unwind_info.specs.UnwindInfo.{byte, slot_at, long_at, slot_count, frame_register, frame_offset, part_size, code, undecodable, save_kind}
-use Rattle.unwind_info.specs.UnwindInfo.{alloc_large, push_machframe, codes, code_at, within, codes_in, codes_of, op_words, info_words, parts_in, parts, infos_words, x64_body}
+use Rattle.unwind_info.specs.UnwindInfo.{byte, slot_at, long_at, slot_count, frame_register, frame_offset, part_size, undecodable, code, slots_of, operation_of, save_kind}
+use Rattle.unwind_info.specs.UnwindInfo.{alloc_large, push_machframe, codes, code_at, within, codes_in, codes_of, kind_number, words_of, op_words, info_words, parts_in, parts, infos_words, x64_body}
 use Rattle.unwind_info.specs.UnwindInfo.{first_refused, count_number, x64_number, decoded}
 use Rattle.unwind_info.specs.Index.{codes_few, ops_length, info_length, zero_both}
 
@@ -59,20 +63,23 @@ unused_zero k r v =
 -- ---- of one code
 
 module _ (p : ℕ → ℕ → ℕ → Bool) where
-  abbrev pub test : UnwindCode → Bool
-  test c = p c.kind c.register c.value
+  abbrev pub test : Operation → Bool
+  test o = p (kind_number o.kind) o.register o.value
+
+  abbrev pub test_code : Option UnwindCode → Bool
+  test_code c = test (operation_of c)
 
   -- an entry of a table that passes throughout passes
-  entry_passes : (cs : List UnwindCode) (c : ℕ) → T (test undecodable) → T (all test cs) → T (test (get_or cs c undecodable))
+  entry_passes : (cs : List (Option UnwindCode)) (c : ℕ) → T (test undecodable) → T (all test_code cs) → T (test_code (get_or cs c None))
   entry_passes [] c d h = d
-  entry_passes (u ∷ cs) zero d h = and_l (test u) _ h
-  entry_passes (u ∷ cs) (suc c) d h = entry_passes cs c d (and_r (test u) _ h)
+  entry_passes (u ∷ cs) zero d h = and_l (test_code u) _ h
+  entry_passes (u ∷ cs) (suc c) d h = entry_passes cs c d (and_r (test_code u) _ h)
 
-  -- where the page's table passes for every info below 16, the codes of a part of bytes pass
+  -- where the page's table passes for every info below 16, the operations of a part of bytes pass
   abbrev pub Passes : Type 0
-  Passes = (f i near far : ℕ) → i < 16 → T (all test (codes f i near far))
+  Passes = (f i near far : ℕ) → i < 16 → T (all test_code (codes f i near far))
 
-  code_passes : T (test undecodable) → Passes → (f : ℕ) (bs : List ℕ) → T (are_bytes bs) → T (test (code_at f bs))
+  code_passes : T (test undecodable) → Passes → (f : ℕ) (bs : List ℕ) → T (are_bytes bs) → T (test_code (code_at f bs))
   unfolding code_at
   code_passes d t f bs h =
       entry_passes (codes f (byte bs 1 / 16) (slot_at bs 2) (long_at bs 2)) (byte bs 1 % 16) d
@@ -83,11 +90,11 @@ module _ (p : ℕ → ℕ → ℕ → Bool) where
   codes_pass d t zero f n bs h = tt
   codes_pass d t (suc k) f zero bs h = tt
   codes_pass d t (suc k) f (suc n) bs h =
-      either (all test) (within (suc n) c) (c ∷ codes_in k f (suc n - c.slots) (drop (2 * c.slots) bs)) (undecodable ∷ [])
-      (both (test c) _ (code_passes d t f bs h) (codes_pass d t k f (suc n - c.slots) (drop (2 * c.slots) bs) (drop_bytes (2 * c.slots) bs h)))
+      either (all test) (within (suc n) c) (operation_of c ∷ codes_in k f (suc n - slots_of c) (drop (2 * slots_of c) bs)) (undecodable ∷ [])
+      (both (test_code c) _ (code_passes d t f bs h) (codes_pass d t k f (suc n - slots_of c) (drop (2 * slots_of c) bs) (drop_bytes (2 * slots_of c) bs h)))
       (both (test undecodable) true d tt)
     where
-      c : UnwindCode
+      c : Option UnwindCode
       c = code_at f bs
 
 -- ---- words behind others
@@ -108,19 +115,20 @@ module _ (front : List ℕ) (x y z : ℕ) (rest : List ℕ) where
   behind_three P h = rw (append_assoc front (x ∷ y ∷ z ∷ []) rest, length-append front (x ∷ y ∷ z ∷ [])) at h
 
 module _ (p : ℕ → ℕ → ℕ → Bool) where
-  -- the words of codes that pass, wherever they stand
-  ops_pass : (front rest : List ℕ) (cs : List UnwindCode) → T (all (test p) cs) → T (ops_are p (front ++ (op_words cs ++ rest)) (length front) (length cs))
+  -- the words of operations that pass, wherever they stand
+  ops_pass : (front rest : List ℕ) (os : List Operation) → T (all (test p) os) → T (ops_are p (front ++ (op_words os ++ rest)) (length front) (length os))
   unfolding ops_are op_words
   ops_pass front rest [] h = tt
-  ops_pass front rest (c ∷ cs) h =
+  ops_pass front rest (o ∷ os) h =
+      let k = kind_number o.kind in
       rw (
-        first_word front c.kind c.register c.value (op_words cs ++ rest),
-        second_word front c.kind c.register c.value (op_words cs ++ rest),
-        third_word front c.kind c.register c.value (op_words cs ++ rest),
+        first_word front k o.register o.value (op_words os ++ rest),
+        second_word front k o.register o.value (op_words os ++ rest),
+        third_word front k o.register o.value (op_words os ++ rest),
       )
-      (both (test p c) _ (and_l (test p c) _ h)
-      (behind_three front c.kind c.register c.value (op_words cs ++ rest) (λ ws a. T (ops_are p ws a (length cs)))
-      (ops_pass (front ++ (c.kind ∷ c.register ∷ c.value ∷ [])) rest cs (and_r (test p c) _ h))))
+      (both (test p o) _ (and_l (test p o) _ h)
+      (behind_three front k o.register o.value (op_words os ++ rest) (λ ws a. T (ops_are p ws a (length os)))
+      (ops_pass (front ++ words_of o) rest os (and_r (test p o) _ h))))
 
   -- those of an info
   info_passes : (front rest q : List ℕ) → T (all (test p) (codes_of q))
@@ -174,19 +182,19 @@ module _ (p : ℕ → ℕ → ℕ → Bool) (d : T (test p undecodable)) (t : Pa
 unused_table : Passes unused_zero
 unfolding codes unused_zero
 unused_table f i near far h =
-    both (test unused_zero (alloc_large i near far)) _ alloc (both (test unused_zero (code 2 (save_kind f) i (8 * near))) _ (save (8 * near))
-    (both (test unused_zero (code 3 (save_kind f) i far)) _ (save far) (both (test unused_zero (push_machframe i)) true frame tt)))
+    both (test_code unused_zero (alloc_large i near far)) _ alloc (both (test_code unused_zero (code 2 (save_kind f) i (8 * near))) _ (save (8 * near))
+    (both (test_code unused_zero (code 3 (save_kind f) i far)) _ (save far) (both (test_code unused_zero (push_machframe i)) true frame tt)))
   where
-    alloc : T (test unused_zero (alloc_large i near far))
+    alloc : T (test_code unused_zero (alloc_large i near far))
     alloc =
-        either (test unused_zero) (eqb i 0) (code 2 2 0 (8 * near)) (cond (eqb i 1) (code 3 2 0 far) undecodable) tt
-        (either (test unused_zero) (eqb i 1) (code 3 2 0 far) undecodable tt tt)
+        either (test_code unused_zero) (eqb i 0) (code 2 Alloc 0 (8 * near)) (cond (eqb i 1) (code 3 Alloc 0 far) None) tt
+        (either (test_code unused_zero) (eqb i 1) (code 3 Alloc 0 far) None tt tt)
 
-    save : (v : ℕ) → T (unused_zero (save_kind f) i v)
-    save v = either (λ (k : ℕ). unused_zero k i v) (eqb f 0) 3 4 tt tt
+    save : (v : ℕ) → T (unused_zero (kind_number (save_kind f)) i v)
+    save v = either (λ (k : OpKind). unused_zero (kind_number k) i v) (eqb f 0) SaveRsp SaveFp tt tt
 
-    frame : T (test unused_zero (push_machframe i))
-    frame = either (test unused_zero) (leb i 1) (code 1 6 0 i) undecodable tt tt
+    frame : T (test_code unused_zero (push_machframe i))
+    frame = either (test_code unused_zero) (leb i 1) (code 1 PushMachineFrame 0 i) None tt tt
 
 -- words that a kind does not use are 0
 pub unused_zero_lem : (b e a : ℕ) (bs : List ℕ) → T (are_bytes bs) → T (infos_are unused_zero (x64_body b e a bs) (length (parts bs)) 4)
@@ -198,21 +206,21 @@ unused_zero_lem b e a bs h = body_passes unused_zero tt unused_table b e a bs h
 fits_table : Passes op_fits
 unfolding codes op_fits
 fits_table f i near far h =
-    both (ltb i 16) _ small (both (test op_fits (alloc_large i near far)) _ alloc (both (test op_fits (code 2 (save_kind f) i (8 * near))) _ (save (8 * near))
-    (both (test op_fits (code 3 (save_kind f) i far)) _ (save far) (both (test op_fits (push_machframe i)) true (frame (leb i 1) refl) tt))))
+    both (ltb i 16) _ small (both (test_code op_fits (alloc_large i near far)) _ alloc (both (test_code op_fits (code 2 (save_kind f) i (8 * near))) _ (save (8 * near))
+    (both (test_code op_fits (code 3 (save_kind f) i far)) _ (save far) (both (test_code op_fits (push_machframe i)) true (frame (leb i 1) refl) tt))))
   where
     small : T (ltb i 16)
     small = lt→ltb i 16 h
 
-    alloc : T (test op_fits (alloc_large i near far))
+    alloc : T (test_code op_fits (alloc_large i near far))
     alloc =
-        either (test op_fits) (eqb i 0) (code 2 2 0 (8 * near)) (cond (eqb i 1) (code 3 2 0 far) undecodable) tt
-        (either (test op_fits) (eqb i 1) (code 3 2 0 far) undecodable tt tt)
+        either (test_code op_fits) (eqb i 0) (code 2 Alloc 0 (8 * near)) (cond (eqb i 1) (code 3 Alloc 0 far) None) tt
+        (either (test_code op_fits) (eqb i 1) (code 3 Alloc 0 far) None tt tt)
 
-    save : (v : ℕ) → T (op_fits (save_kind f) i v)
-    save v = either (λ (k : ℕ). op_fits k i v) (eqb f 0) 3 4 small small
+    save : (v : ℕ) → T (op_fits (kind_number (save_kind f)) i v)
+    save v = either (λ (k : OpKind). op_fits (kind_number k) i v) (eqb f 0) SaveRsp SaveFp small small
 
-    frame : (t : Bool) → leb i 1 ≡ t → T (test op_fits (cond t (code 1 6 0 i) undecodable))
+    frame : (t : Bool) → leb i 1 ≡ t → T (test_code op_fits (cond t (code 1 PushMachineFrame 0 i) None))
     frame true e = rw e tt
     frame false e = tt
 
@@ -267,26 +275,19 @@ layout_kept b e a bs h z =
     both (leb 1 (length (parts bs)) && leb (length (parts bs)) 32) _ (number_parts bs z)
     (infos_fit_lem (b ∷ e ∷ a ∷ length (parts bs) ∷ []) (parts bs) (parts_bytes (length bs) bs h))
 
-is_refused4 : Judged → Bool
-is_refused4 (Refuse n) = eqb n 4
-is_refused4 Skip = false
-is_refused4 Write = false
-
 -- so refusal 4 never meets it
-pub never_refused_4 : (limit b e a : ℕ) (bs : List ℕ) → T (are_bytes bs) → x64_number bs ≡ 0 → x64_judged limit (x64_body b e a bs) ≡ Refuse 4 → ⊥
-unfolding is_refused4 x64_judged x64_reach
+pub never_refused_4 : (limit b e a : ℕ) (bs : List ℕ) → T (are_bytes bs) → x64_number bs ≡ 0 → x64_judged limit (x64_body b e a bs) ≡ Err Layout → ⊥
+unfolding x64_judged x64_reach
 never_refused_4 limit b e a bs h z q =
     let ws = x64_body b e a bs in
-    let l = is_true (x64_layout ws) (layout_kept b e a bs h z) in
-    false≢true (sym (go (x64_skipped limit ws) (ltb limit (word ws 3)) (in_reach 8 (chain ws)) (ltb 1 (set_count (chain ws)))) ∙ ap is_refused4 (rw l at q))
+    go (x64_skipped limit ws) (ltb limit (word ws 3)) (in_reach 8 (chain ws)) (ltb 1 (set_count (chain ws))) (rw (is_true (x64_layout ws) (layout_kept b e a bs h z)) at q)
   where
-    go : (s x y t : Bool)
-        → is_refused4 (cond s Skip (cond (eqb (cond x 5 (cond y (cond t 7 0) 6)) 0) Write (Refuse (cond x 5 (cond y (cond t 7 0) 6))))) ≡ false
-    go true x y t = refl
-    go false true y t = refl
-    go false false true true = refl
-    go false false true false = refl
-    go false false false t = refl
+    go : (s x y t : Bool) → ◌≡◌ {A = Judged} (cond s (Ok Skip) (reached (cond x (Some Chain) (cond y (cond t (Some Frame) None) (Some Reach))))) (Err Layout) → ⊥
+    go true x y t e = cc
+    go false true y t e = cc
+    go false false true true e = cc
+    go false false true false e = cc
+    go false false false t e = cc
 
 -- ---- the length
 
@@ -305,6 +306,7 @@ body_length b e a bs h z =
 -- ---- the room
 
 -- what stood in it does not matter
-pub room_alike : (b e a : ℕ) (bs : List ℕ) {d d' c c' : List ℕ} {r s : Filled} → Fills (decoded bs b e a (length d)) d d' r → Fills (decoded bs b e a (length c)) c c' s
-    → length d ≡ length c → (r.number ≡ s.number) × ((r.filled ≡ s.filled) × (take r.filled d' ≡ take s.filled c'))
-room_alike b e a bs p q same = filled_alike p (rw (← same) at q)
+pub room_alike : (b e a : ℕ) (bs d d' c c' : List ℕ) (r s : Result ℕ Refusal) → Fills (decoded bs b e a (length d)) d d' r
+    → Fills (decoded bs b e a (length c)) c c' s → length d ≡ length c
+    → (answer_number r ≡ answer_number s) × ((count r ≡ count s) × (take (count r) d' ≡ take (count s) c'))
+room_alike b e a bs d d' c c' r s p q same = filled_alike (decoded bs b e a (length d)) d d' c c' r s p (rw (← same) at q)

@@ -9,84 +9,74 @@
 //     byte 3   frame register (low 4 bits), frame offset in units of 16
 //     slot     code offset, not read; operation code (low 4 bits), info (high 4 bits)
 //
-// code reads one unwind code, part the headers and refusals 10, 11 and 4, write puts the body.
+// code reads the unwind codes, part the headers, infos the parts one after the other, with refusals 10, 11 and 4; here the body is put, with refusal 9.
 #![tactic(auto)]
 
 mod code;
+mod infos;
 mod part;
-mod write;
 
-ghost use Rattle.std.specs.Prelude.{◌≡◌, ◌+◌, ◌*◌, ◌≤◌, length, leb};
+ghost use Rattle.std.specs.Prelude.{◌≡◌, length};
 ghost use Rattle.fill.specs.Fill.{Fills};
-ghost use Rattle.unwind_info.specs.UnwindInfo.{parts as parts_of, infos_words, decoded};
-ghost use Rattle.unwind_info.specs.Index.{Checks};
+ghost use Rattle.unwind_info.specs.UnwindInfo.{decoded};
 
-use entry::refusal;
-use fill::Filled;
-use part::check_parts;
-use write::{count_words, put_body};
+use fill::put_words;
+use infos::Infos;
+use refusal::Refusal;
 
-// An unwind code: the slots that it takes, 0 where it is not defined, and the operation that it becomes.
-#[derive(Clone, Copy)]
-pub struct UnwindCode {
-    pub slots: usize,
-    pub kind: u32,
+// The kinds of operations in a body, by their numbers of docs/BOOK.md.
+#[derive(Clone, Copy, PartialEq, Eq)]
+pub enum OpKind {
+    PushNonVolatile = 1,
+    Alloc = 2,
+    SaveRsp = 3,
+    SaveFp = 4,
+    SetFpRegister = 5,
+    PushMachineFrame = 6,
+    Other = 7,
+    Undecodable = 8,
+}
+
+// What an unwind code becomes. What a kind does not use is 0.
+#[derive(Clone, Copy, PartialEq, Eq)]
+pub struct Operation {
+    pub kind: OpKind,
     pub register: u32,
     pub value: u32,
 }
 
-// What the headers say: the refusal's number or 0, how many parts there are, and how many slots these count.
-#[derive(Clone, Copy)]
-pub struct Checked {
-    pub number: u32,
-    pub parts: usize,
-    pub slots: usize,
-}
+impl Operation {
+    ghost use Rattle.unwind_info.specs.UnwindInfo.{words_of};
 
-// Where the words go on, and how many operations there were.
-#[derive(Clone, Copy)]
-pub struct Placed {
-    pub at: usize,
-    pub count: usize,
-}
-
-// The words that a body has at most: four, three for each part, and three for each slot.
-fn most_words(checked: Checked) -> usize
-    requires { (checked.parts ≤ 32) × (checked.slots ≤ 8160) }
-    ensures { result ≡ 4 + 3 * checked.parts + 3 * checked.slots }
-{
-    4 + 3 * checked.parts + 3 * checked.slots
-}
-
-// Whether that room is long enough. Where the counts do not tell, the body's words are counted.
-fn fits(bytes: &[u8], checked: Checked, room: usize) -> bool
-    requires { Checks bytes.now checked × (checked.number ≡ 0) }
-    ensures { result ≡ leb (4 + length (infos_words (parts_of bytes.now))) room }
-{
-    if most_words(checked) <= room {
-        return true;
+    // Kind, register, value.
+    pub(crate) fn words(self) -> [u32; 3]
+        ensures { result ≡ words_of self }
+    {
+        [self.kind as u32, self.register, self.value]
     }
-    count_words(bytes) <= room
+}
+
+// An unwind code: the slots that it takes, and the operation that it becomes.
+#[derive(Clone, Copy, PartialEq, Eq)]
+pub struct UnwindCode {
+    pub slots: usize,
+    pub operation: Operation,
 }
 
 // The body of a function whose unwind bytes these are.
-pub fn decode_x64(bytes: &[u8], begin: u32, end: u32, info_address: u32, body: &mut [u32]) -> Filled
+pub fn decode_x64(
+    bytes: &[u8],
+    begin: u32,
+    end: u32,
+    info_address: u32,
+    body: &mut [u32],
+) -> Result<usize, Refusal>
     ensures { Fills (decoded bytes.now begin end info_address (length body.old)) body.old body.new result }
 {
-    let checked = check_parts(bytes);
-    let number = checked.number;
-    if number != refusal::NONE {
-        return Filled { number, filled: 0 };
+    let infos = Infos::read(bytes)?;
+    if !infos.fits(body.len()) {
+        return Err(Refusal::Room);
     }
-    if fits(bytes, checked, body.len()) {
-        let filled = put_body(body, bytes, begin, end, info_address, checked.parts);
-        return Filled {
-            number: refusal::NONE,
-            filled,
-        };
-    }
-    Filled {
-        number: refusal::ROOM,
-        filled: 0,
-    }
+    let at = put_words(body, 0, &[begin, end, info_address, infos.parts as u32]);
+    Ok(infos.put(body, at))
 }

@@ -1,4 +1,3 @@
 pub mod Sense
 pub mod Rules
-pub mod Loops
-pub mod Passes
+pub mod Infos

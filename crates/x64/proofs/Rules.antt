@@ -1,18 +1,28 @@
--- Places as `put_saved` writes them, and the parts of the line.
-use mathlib.Core.Path.{◌≡◌, ap}
-use Prim.Native.Nat.{ℕ}
-use mathlib.Core.List.{List, ◌++◌, append_assoc}
-use lib.IntN.{pos, sub_ℕ}
+-- Places as signed numbers, and the parts of the line.
+use Rattle.std.proofs.Common.{◌≡◌, ℕ, ◌+◌, ◌^◌, ◌<◌, Bool, true, false, ltb, ltb-true, ltb-false, List, ◌++◌, ℤ, pos, ◌+ℤ◌, ◌-ℤ◌, refl, ap, append_assoc, arith, to_z, of_z, w64}
+use Rattle.std.proofs.Math.IntN.{sub_ℕ}
+use Rattle.std.proofs.Math.Facts.{to_z-of_z}
+use Rattle.std.proofs.lemmas.Int.{ints}
+use mir.Val.{SFits}
 use Rattle.text.specs.Text.{ascii, Put}
 use Rattle.text.specs.Text.Laws.{put_as, ◌⨾◌}
 use Rattle.lines.specs.Lines.{Bytes, init_text}
-use Rattle.lines.specs.Lines.Laws.{sub_none}
 use Rattle.digits.specs.Digits.{hex}
-use Rattle.x64.specs.X64.{saved_text}
 
--- a place that is no difference
-pub put_place : {d d' : List ℕ} {at r : ℕ} (n : Bytes) (a : ℕ) → Put d at (saved_text n (sub_ℕ a 0)) d' r → Put d at (saved_text n (pos a)) d' r
-put_place n a p = put_as p (ap (saved_text n) (sub_none a))
+-- an i64 in a rule
+pub same_i64 : (n : ℤ) → SFits w64 n → to_z w64 (of_z w64 n) ≡ n
+same_i64 n h = to_z-of_z h
+
+-- the sum and the difference of two u32 as an i64
+pub sum_is : (a b : ℕ) → a < 2 ^ 32 → b < 2 ^ 32 → to_z w64 (of_z w64 (to_z w64 a +ℤ pos b)) ≡ pos (a + b)
+sum_is a b h k = omega (arith, ints)
+
+pub difference_is : (a b : ℕ) → a < 2 ^ 32 → b < 2 ^ 32 → to_z w64 (of_z w64 (to_z w64 a -ℤ to_z w64 b)) ≡ sub_ℕ a b
+difference_is a b h k = go (ltb a b) refl
+  where
+    go : (t : Bool) → ltb a b ≡ t → to_z w64 (of_z w64 (to_z w64 a -ℤ to_z w64 b)) ≡ sub_ℕ a b
+    go true e = let l : a < b = ltb-true a b e in rw e (omega (arith, ints))
+    go false e = let l = ltb-false a b e in rw e (omega (arith, ints))
 
 -- an INIT line of three parts
 pub put_line : {d d₁ d₂ d₃ d₄ d₅ : List ℕ} {at r₁ r₂ r₃ r₄ r₅ : ℕ} (b z : ℕ) (x y w : Bytes)

@@ -1,9 +1,8 @@
 -- The text of an x64 entry as its operations are run is the text of its sense, and the line is well formed; the law of the CFA.
-use Rattle.std.specs.Prelude.{◌≡◌, ℕ, ◌+◌, ◌-◌, ◌*◌, Bool, true, false, not, cond, length, get_or, take, pos, T, eqb}
+use Rattle.std.specs.Prelude.{◌≡◌, ℕ, ◌+◌, ◌-◌, ◌*◌, Bool, true, false, not, cond, length, get_or, take, pos, T, eqb, Option}
 use Rattle.std.proofs.Math.Path.{refl}
 use Rattle.std.proofs.Common.{sym, ap, ◌∙◌, add-one, arith, ne_eqb}
 use Rattle.std.proofs.Math.Nat.{add_assoc}
-use Rattle.std.proofs.lemmas.Bool.{eqb-false}
 use mathlib.Core.List.{List, [], ◌∷◌, ◌++◌, map, append-nil, append_assoc, map-append}
 use Rattle.std.proofs.Math.ListN.{length-append}
 use Rattle.std.proofs.Math.Seq.{take-append_seam, get_or-append_seam, append_snoc}
@@ -17,7 +16,7 @@ use Rattle.lines.specs.Lines.Laws.{rules_append, render_unless}
 use Rattle.rules.specs.Rules.Laws.{pe_ok}
 use Rattle.entry.specs.declared.Last.{Last}
 use Rattle.entry.specs.Entry.{word}
-use Rattle.entry.specs.Entry.Laws.{Accepted, accepted}
+use Rattle.entry.specs.Entry.Laws.{Accepted, accepted_by}
 use Rattle.x64.specs.declared.Op.{Op}
 use Rattle.x64.specs.declared.Op.TheVariants.{PushNonVolatile, Alloc, SaveRsp, SaveFp, SetFpRegister, PushMachineFrame, Other, Undecodable}
 use Rattle.x64.specs.X64.{chain, is_machine, any_machine, x64_layout, x64_skipped, x64_reach, x64_judged, growth_of, run, total}
@@ -200,13 +199,12 @@ x64_ok ws =
 
 -- ---- an entry that is not refused: its text is that of its line, unless it is skipped
 
-pub x64_accepted : (limit : ℕ) (last : Last) (ws : List ℕ) → (x64_entry limit last ws).number ≡ 0
+pub x64_accepted : (limit : ℕ) (last : Option Last) (ws : List ℕ) → (x64_entry limit last ws).number ≡ 0
     → Accepted (x64_layout ws) (x64_skipped limit ws) (x64_judged limit ws) (x64_text ws) last last
 unfolding x64_entry x64_judged
-x64_accepted limit last ws =
-    accepted (x64_layout ws) (x64_skipped limit ws) (eqb (x64_reach limit ws) 0) (x64_reach limit ws) (x64_text ws) last last (eqb-false (x64_reach limit ws) 0)
+x64_accepted limit last ws = accepted_by (x64_layout ws) (x64_skipped limit ws) (x64_reach limit ws) (x64_text ws) last last
 
-pub x64_entry_text : (limit : ℕ) (last : Last) (ws : List ℕ) → (x64_entry limit last ws).number ≡ 0
+pub x64_entry_text : (limit : ℕ) (last : Option Last) (ws : List ℕ) → (x64_entry limit last ws).number ≡ 0
     → (x64_entry limit last ws).text ≡ render false (cond (x64_skipped limit ws) [] (x64_lines ws))
 unfolding x64_entry x64_lines
 x64_entry_text limit last ws e = (x64_accepted limit last ws e).text_is ∙ render_unless false (x64_skipped limit ws) (x64_text ws) (x64_lines ws) (x64_text_lem ws)

@@ -1,18 +1,21 @@
 -- An x64 body (document 01, "x64 body"): its operations from the words, refusals 4 to 7, skipping, and its line as the operations are run.
 -- A body's words are ws; a word that is missing reads 0.
 use Rattle.std.specs.Prelude.{ℕ, zero, suc, min, ◌+◌, ◌-◌, ◌*◌, ◌^◌, Bool, true, false, cond, ◌&&◌, ◌||◌, List, [], ◌∷◌, ◌++◌, reverse, length, ℤ, pos, ltb, leb, eqb}
+use Rattle.std.specs.Prelude.{Option, None, Some, Ok, Err}
 use Rattle.std.proofs.Math.IntN.{sub_ℕ}
 use Rattle.text.specs.Text.{ascii}
 use Rattle.text.specs.Tests.{all}
 use Rattle.tables.specs.Tables.{pe_name, pe_x64}
 use Rattle.digits.specs.Digits.{hex, signed, Digits·open}
+use Rattle.refusal.specs.declared.Refusal.{Refusal}
+use Rattle.refusal.specs.declared.Refusal.TheVariants.{Layout, Chain, Reach, Frame}
+use Rattle.entry.specs.declared.Fate.TheVariants.{Skip}
 use Rattle.entry.specs.declared.Last.{Last}
-use Rattle.entry.specs.Entry.{Entry, comes_to, word}
+use Rattle.entry.specs.Entry.{Judged, Entry, comes_to, word}
+use Rattle.entry.specs.Entry.Laws.{reached}
 use Rattle.x64.specs.declared.Op.{Op}
 use Rattle.x64.specs.declared.Op.TheVariants.{PushNonVolatile, Alloc, SaveRsp, SaveFp, SetFpRegister, PushMachineFrame, Other, Undecodable}
 use Rattle.lines.specs.Reach.{inside}
-use Rattle.entry.specs.declared.Judged.{Judged}
-use Rattle.entry.specs.declared.Judged.TheVariants.{Refuse, Skip, Write}
 
 -- ---- operations from words
 
@@ -236,20 +239,20 @@ unfoldable pub set_count : List Op → ℕ
 set_count [] = 0
 set_count (o ∷ os) = cond (is_set o) 1 0 + set_count os
 
--- 5, then 6, then 7; 0 for none
-unfoldable pub x64_reach : ℕ → List ℕ → ℕ
+-- 5, then 6, then 7
+unfoldable pub x64_reach : ℕ → List ℕ → Option Refusal
 x64_reach limit ws =
-    cond (ltb limit (info_count ws)) 5 (cond (in_reach 8 (chain ws)) (cond (ltb 1 (set_count (chain ws))) 7 0) 6)
+    cond (ltb limit (info_count ws)) (Some Chain) (cond (in_reach 8 (chain ws)) (cond (ltb 1 (set_count (chain ws))) (Some Frame) None) (Some Reach))
 
 -- ---- one entry: 4, skipping, 5 to 7
 
 -- 4, skipping, then the rest
 unfoldable pub x64_judged : ℕ → List ℕ → Judged
 x64_judged limit ws =
-    cond (x64_layout ws) (cond (x64_skipped limit ws) Skip (cond (eqb (x64_reach limit ws) 0) Write (Refuse (x64_reach limit ws)))) (Refuse 4)
+    cond (x64_layout ws) (cond (x64_skipped limit ws) (Ok Skip) (reached (x64_reach limit ws))) (Err Layout)
 
 -- x64 passes on what was left to it
-unfoldable pub x64_entry : ℕ → Last → List ℕ → Entry
+unfoldable pub x64_entry : ℕ → Option Last → List ℕ → Entry
 x64_entry limit last ws = comes_to (x64_judged limit ws) (x64_text ws) last last
 
 -- what to unfold where x64 entries are to compute

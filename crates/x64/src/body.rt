@@ -17,17 +17,17 @@
 //     6 machine frame       value: 1 with an error code, else 0
 //     7 other               -
 //     8 undecodable         -
-ghost use Rattle.std.specs.Prelude.{◌≡◌, ◌^◌, ◌<◌, ◌≤◌, get_or, T};
-ghost use Rattle.x64.specs.X64.{op_of, growth_of, value_of, x64_layout};
-ghost use Rattle.x64.specs.Index.{op_at, info_at};
+ghost use Rattle.std.specs.Prelude.{◌≡◌, ◌<◌, ◌≤◌, length, drop, get_or, MatchOption, T};
+ghost use Rattle.x64.specs.X64.{chain, growth_of, value_of, x64_layout};
+ghost use Rattle.x64.specs.Index.{op_in, info_length, info_at, IsInfo, left_to_run};
 
 use crate::Op;
 use entry::word;
 
 // Where the words of a body stand.
-pub(crate) const BEGIN_AT: usize = 0;
+const BEGIN_AT: usize = 0;
 
-pub(crate) const END_AT: usize = 1;
+const END_AT: usize = 1;
 
 pub(crate) const INFO_ADDRESS_AT: usize = 2;
 
@@ -36,121 +36,222 @@ pub(crate) const INFOS_AT: usize = 3;
 pub(crate) const FIRST_INFO: usize = 4;
 
 // Those of an info, behind its frame register.
-pub(crate) const FRAME_OFFSET_AT: usize = 1;
+const FRAME_OFFSET_AT: usize = 1;
 
-pub(crate) const OPS_AT: usize = 2;
+const OPS_AT: usize = 2;
 
-pub(crate) const FIRST_OP: usize = 3;
+const FIRST_OP: usize = 3;
 
-// Those of an operation, behind its kind.
-pub(crate) const REGISTER_AT: usize = 1;
+// How many an operation has: kind, register, value.
+const OP_WORDS: usize = 3;
 
-pub(crate) const VALUE_AT: usize = 2;
+pub(crate) type OpWords = [u32; OP_WORDS];
 
-pub(crate) const OP_WORDS: usize = 3;
-
-// The kinds of operations.
+// The kinds of operations, by the numbers that the words have.
 pub(crate) const PUSH_NONVOLATILE: u32 = 1;
 
-pub(crate) const ALLOC: u32 = 2;
+const ALLOC: u32 = 2;
 
 pub(crate) const SAVE_RSP: u32 = 3;
 
 pub(crate) const SAVE_FP: u32 = 4;
 
-pub(crate) const SET_FP_REGISTER: u32 = 5;
+const SET_FP_REGISTER: u32 = 5;
 
 pub(crate) const PUSH_MACHINE_FRAME: u32 = 6;
 
 pub(crate) const UNDECODABLE: u32 = 8;
 
 // A register or an address on the stack. The total starts with one: the return address.
-pub(crate) const SLOT: u64 = 8;
+pub(crate) const SLOT: u32 = 8;
 
 // What an interrupt pushes, without and with an error code.
-pub(crate) const MACHINE_FRAME: u64 = 40;
+const MACHINE_FRAME: u32 = 40;
 
-pub(crate) const MACHINE_FRAME_WITH_CODE: u64 = 48;
+const MACHINE_FRAME_WITH_CODE: u32 = 48;
 
-#[tactic(auto, unfolding(crate::specs::X64::op_of))]
-fn op_of(kind: u32, register: u32, value: u32, frame: u32, offset: u32) -> Op
-    ensures { result ≡ op_of frame offset kind register value }
-{
-    match kind {
-        PUSH_NONVOLATILE => Op::PushNonVolatile(register),
-        ALLOC => Op::Alloc(value),
-        SAVE_RSP => Op::SaveRsp(register, value),
-        SAVE_FP => Op::SaveFp(register, value, frame, offset),
-        SET_FP_REGISTER => Op::SetFpRegister(frame, offset),
-        PUSH_MACHINE_FRAME => Op::PushMachineFrame(value == 1),
-        UNDECODABLE => Op::Undecodable,
-        _ => Op::Other,
-    }
-}
+// ---- an operation
 
-// Where info k starts, counted from 0; at the count, where the infos end.
-pub(crate) fn info_at(body: &[u32], k: usize) -> usize
-    requires { T (x64_layout body.now) × (k ≤ get_or body.now 3 0) }
-    ensures { (result ≡ info_at body.now k) × (result < 2 ^ 19) }
-{
-    let mut a: usize = FIRST_INFO;
-    let mut i = k;
-    while 0 < i {
-        let n = word(body, a + OPS_AT) as usize;
-        a = a + FIRST_OP + OP_WORDS * n;
-        i -= 1;
-    }
-    a
-}
-
-// The operation whose words start at i, of an info with this frame register and offset.
-#[tactic(auto, unfolding(crate::specs::Index::op_at))]
-pub(crate) fn op_at(body: &[u32], frame: u32, offset: u32, i: usize) -> Op
-    requires { i < 2 ^ 32 }
-    ensures { result ≡ op_at body.now frame offset i }
-{
-    let kind = word(body, i);
-    let register = word(body, i + REGISTER_AT);
-    let value = word(body, i + VALUE_AT);
-    op_of(kind, register, value, frame, offset)
-}
-
-// What an operation adds to the total.
-#[tactic(auto, unfolding(crate::specs::X64::growth_of))]
-pub(crate) fn growth(op: Op) -> u64
-    ensures { result ≡ growth_of op }
-{
-    match op {
-        Op::PushNonVolatile(_) => SLOT,
-        Op::Alloc(v) => v as u64,
-        Op::PushMachineFrame(code) => {
-            if code {
-                MACHINE_FRAME_WITH_CODE
-            } else {
-                MACHINE_FRAME
-            }
+impl Op {
+    // What it adds to the total.
+    #[tactic(auto, unfolding(crate::specs::X64::growth_of))]
+    pub(crate) fn growth(self) -> u32
+        ensures { result ≡ growth_of self }
+    {
+        match self {
+            Op::PushNonVolatile(_) => SLOT,
+            Op::Alloc(v) => v,
+            Op::PushMachineFrame(true) => MACHINE_FRAME_WITH_CODE,
+            Op::PushMachineFrame(false) => MACHINE_FRAME,
+            Op::SaveRsp(..)
+            | Op::SaveFp(..)
+            | Op::SetFpRegister(..)
+            | Op::Other
+            | Op::Undecodable => 0,
         }
-        Op::SaveRsp(_, _) => 0,
-        Op::SaveFp(_, _, _, _) => 0,
-        Op::SetFpRegister(_, _) => 0,
-        Op::Other => 0,
-        Op::Undecodable => 0,
+    }
+
+    // The value that it uses.
+    #[tactic(auto, unfolding(crate::specs::X64::value_of))]
+    pub(crate) fn value(self) -> u32
+        ensures { result ≡ value_of self }
+    {
+        match self {
+            Op::Alloc(v) | Op::SaveRsp(_, v) | Op::SaveFp(_, v, _, _) => v,
+            Op::PushNonVolatile(_)
+            | Op::SetFpRegister(..)
+            | Op::PushMachineFrame(_)
+            | Op::Other
+            | Op::Undecodable => 0,
+        }
     }
 }
 
-// The value that an operation uses.
-#[tactic(auto, unfolding(crate::specs::X64::value_of))]
-pub(crate) fn value_of(op: Op) -> u64
-    ensures { result ≡ value_of op }
-{
-    match op {
-        Op::PushNonVolatile(_) => 0,
-        Op::Alloc(v) => v as u64,
-        Op::SaveRsp(_, v) => v as u64,
-        Op::SaveFp(_, v, _, _) => v as u64,
-        Op::SetFpRegister(_, _) => 0,
-        Op::PushMachineFrame(_) => 0,
-        Op::Other => 0,
-        Op::Undecodable => 0,
+// ---- an info
+
+// The frame register with its offset, and the words of the operations as they are stored.
+#[derive(Clone, Copy)]
+pub(crate) struct Info<'a> {
+    pub(crate) register: u32,
+    pub(crate) offset: u32,
+    pub(crate) ops: &'a [OpWords],
+}
+
+impl<'a> Info<'a> {
+    // The info that the words begin with, and the words behind it; none where they are too few.
+    pub(crate) fn split(words: &'a [u32]) -> Option<(Info<'a>, &'a [u32])>
+        ensures { MatchOption result (length words.now < info_length words.now)
+            (λ p. (info_length words.now ≤ length words.now) × IsInfo words.now p.0.register p.0.offset p.0.ops.now × (p.1.now ≡ drop (info_length words.now) words.now)) }
+    {
+        let end = FIRST_OP + OP_WORDS * word(words, OPS_AT) as usize;
+        if words.len() < end {
+            return None;
+        }
+        let (ops, _) = words[FIRST_OP..end].as_chunks::<OP_WORDS>();
+        let info = Info {
+            register: words[0],
+            offset: words[FRAME_OFFSET_AT],
+            ops,
+        };
+        Some((info, &words[end..]))
+    }
+
+    // The operation that these words of it hold.
+    #[tactic(auto, unfolding(crate::specs::Index::op_in, crate::specs::X64::op_of))]
+    fn op(self, words: &OpWords) -> Op
+        ensures { result ≡ op_in self.entry.register self.entry.offset words.now }
+    {
+        let [kind, register, value] = *words;
+        match kind {
+            PUSH_NONVOLATILE => Op::PushNonVolatile(register),
+            ALLOC => Op::Alloc(value),
+            SAVE_RSP => Op::SaveRsp(register, value),
+            SAVE_FP => Op::SaveFp(register, value, self.register, self.offset),
+            SET_FP_REGISTER => Op::SetFpRegister(self.register, self.offset),
+            PUSH_MACHINE_FRAME => Op::PushMachineFrame(value == 1),
+            UNDECODABLE => Op::Undecodable,
+            _ => Op::Other,
+        }
+    }
+}
+
+// ---- a body
+
+// The words of a body that keeps the layout: refusal 4 does not apply.
+#[derive(Clone, Copy)]
+pub(crate) struct Body<'a> {
+    pub(crate) words: &'a [u32],
+    ghost fits: { T (x64_layout words.now) },
+}
+
+impl<'a> Body<'a> {
+    pub(crate) fn begin(self) -> u32
+        ensures { result ≡ get_or self.entry.words.now 0 0 }
+    {
+        word(self.words, BEGIN_AT)
+    }
+
+    pub(crate) fn end(self) -> u32
+        ensures { result ≡ get_or self.entry.words.now 1 0 }
+    {
+        word(self.words, END_AT)
+    }
+
+    pub(crate) fn info_count(self) -> u32
+        ensures { result ≡ get_or self.entry.words.now 3 0 }
+    {
+        word(self.words, INFOS_AT)
+    }
+
+    // The words from info k on, counted from 0; at the count, none.
+    pub(crate) fn from_info(self, k: u32) -> &'a [u32]
+        requires { k ≤ get_or self.words.now 3 0 }
+        ensures { result.now ≡ drop (info_at self.entry.words.now k) self.entry.words.now }
+    {
+        let mut rest = &self.words[FIRST_INFO..];
+        for _ in 0..k {
+            rest = Info::split(rest).unwrap().1;
+        }
+        rest
+    }
+
+    // Info k, counted from 0.
+    pub(crate) fn info(self, k: u32) -> Info<'a>
+        requires { k < get_or self.words.now 3 0 }
+        ensures { let ws = drop (info_at self.entry.words.now k) self.entry.words.now in IsInfo ws result.register result.offset result.ops.now }
+    {
+        Info::split(self.from_info(k)).unwrap().0
+    }
+
+    // The operations in the order in which they run.
+    #[tactic(auto, unfolding(crate::specs::X64::chain))]
+    pub(crate) fn chain(self) -> Chain<'a>
+        ensures { left_to_run result.body.words.now result.left result.info.register result.info.offset result.info.ops.now ≡ chain self.entry.words.now }
+    {
+        Chain {
+            body: self,
+            left: self.info_count(),
+            info: Info {
+                register: 0,
+                offset: 0,
+                ops: &[],
+            },
+        }
+    }
+}
+
+// The operations of a body: infos last to first, the operations of each backwards.
+#[derive(Drop)]
+pub(crate) struct Chain<'a> {
+    body: Body<'a>,
+    // how many infos are left, from the first on
+    left: u32,
+    // what is left of the info behind them
+    info: Info<'a>,
+    ghost within: { left ≤ get_or body.words.now 3 0 },
+}
+
+impl<'a> Iterator for Chain<'a> {
+    ghost use Rattle.std.specs.Iterator.{YieldsFirst, item_count};
+    ghost use Rattle.x64.specs.Index.{left_to_run};
+
+    type Item = Op;
+
+    ghost next_gives = { YieldsFirst (λ s. left_to_run s.body.words.now s.left s.info.register s.info.offset s.info.ops.now) };
+
+    ghost remaining = { item_count (λ s. left_to_run s.body.words.now s.left s.info.register s.info.offset s.info.ops.now) };
+
+    fn next(&mut self) -> Option<Op> {
+        loop {
+            if let Some((words, others)) = self.info.ops.split_last() {
+                self.info.ops = others;
+                return Some(self.info.op(words));
+            }
+            if self.left == 0 {
+                return None;
+            }
+            self.left -= 1;
+            self.info = self.body.info(self.left);
+        }
     }
 }

@@ -16,13 +16,13 @@ mod body;
 mod judge;
 mod write;
 
-ghost use Rattle.std.specs.Prelude.{T};
-ghost use Rattle.entry.specs.Entry.{Processed, comes_to};
-ghost use Rattle.x64.specs.X64.{x64_text, x64_layout, x64_entry};
-ghost use Rattle.x64.specs.Index.{chain_judged};
+ghost use Rattle.entry.specs.Entry.{Processed};
+ghost use Rattle.x64.specs.X64.{x64_entry};
 
-use entry::{Judged, Last, Wrote, refusal};
-use judge::{admit, refused_by, scan_chain};
+use body::Body;
+use entry::{Last, Wrote};
+use judge::scan_chain;
+use refusal::Refusal;
 use write::put_entry;
 
 // An unwind operation with the words that it uses; those that need the frame register carry it with its offset.
@@ -44,57 +44,42 @@ pub enum Op {
     Undecodable,
 }
 
-// The total so far; whether a number was out of reach; whether a frame register was set, and set again; the first one set,
-// with the total where it was set and its offset; whether there was a machine frame.
+// A frame register that is set: its offset, and the total where it is set.
+#[derive(Clone, Copy)]
+pub struct Frame {
+    pub register: u32,
+    pub offset: u32,
+    pub place: u32,
+}
+
+// What a chain comes to, as far as it is run: the total, the frame register that was set first, whether one was set again, and whether there was a
+// machine frame.
 #[derive(Clone, Copy)]
 pub struct Scan {
-    pub total: u64,
-    pub lost: bool,
-    pub set: bool,
+    pub total: u32,
+    pub frame: Option<Frame>,
     pub twice: bool,
-    pub frame: u32,
-    pub place: u64,
-    pub offset: u32,
     pub machine: bool,
 }
 
-// Where the text goes on, and the total so far.
-#[derive(Clone, Copy)]
-pub struct Placed {
-    pub at: usize,
-    pub total: u64,
-}
-
-// An entry that is admitted: its chain is looked at once, for the refusals and for the line.
-fn put_admitted(out: &mut [u8], at: usize, body: &[u32], last: Last) -> Wrote
-    requires { T (x64_layout body.now) }
-    ensures { Processed (comes_to (chain_judged body.now) (x64_text body.now) last last) out.old at out.new result }
-{
-    let s = scan_chain(body);
-    let number = refused_by(s);
-    if number != refusal::NONE {
-        return Wrote { number, at, last };
-    }
-    let p = put_entry(out, at, body, s);
-    Wrote {
-        number: refusal::NONE,
-        at: p,
-        last,
-    }
-}
-
 // One entry: judged, and put at `at` where it is written. It leaves to the next what was left to it.
-pub fn process_pe(out: &mut [u8], at: usize, body: &[u32], limit: u32, last: Last) -> Wrote
+pub fn process_pe(
+    out: &mut [u8],
+    at: usize,
+    body: &[u32],
+    limit: u32,
+    last: Option<Last>,
+) -> Result<Wrote, Refusal>
     ensures { Processed (x64_entry limit last body.now) out.old at out.new result }
 {
-    let judged = admit(body, limit);
-    match judged {
-        Judged::Refuse(number) => Wrote { number, at, last },
-        Judged::Skip => Wrote {
-            number: refusal::NONE,
-            at,
-            last,
-        },
-        Judged::Write => put_admitted(out, at, body, last),
+    let body = Body::new(body).ok_or(Refusal::Layout)?;
+    if body.is_skipped(limit) {
+        return Ok(Wrote { at, last });
     }
+    if limit < body.info_count() {
+        return Err(Refusal::Chain);
+    }
+    let scan = scan_chain(body)?;
+    let at = put_entry(out, at, body, scan);
+    Ok(Wrote { at, last })
 }

@@ -1,43 +1,27 @@
 -- `process_pe_arm64`: one case for each judgement; a written entry keeps what `put_lines` requires.
-use Rattle.std.proofs.Common.{refl, sym, ap, ◌∙◌, List, ℕ, arith}
+use Rattle.std.proofs.Common.{refl, arith}
+use Rattle.std.proofs.lemmas.Result.{err_from_is_err_and}
 use Rattle.text.specs.Text.Laws.{put_none, put_as}
-use Rattle.entry.specs.Entry.{word}
-use Rattle.arm64.specs.declared.Op.{Op}
-use Rattle.arm64.specs.Arm64.{op_count, no_pair, run, arm_text, arm_entry}
-use Rattle.arm64.specs.Index.{ops_run, ops_run_lem, first_end_few, layout_few, written}
+use Rattle.arm64.specs.Arm64.{arm_entry}
 use Rattle.arm64.proofs.process_pe_arm64.Goals as goal
 
-pub first_end-requires : goal.first_end-requires
-first_end-requires c =
-    let ws = c.args.body.now in
-    layout_few ws (written ws (sym c.judge-judged.ensures ∙ c.in-Write.is)).0
+pub put_lines-at-requires : goal.put_lines-at-requires
+put_lines-at-requires c = let a = rw c.in-Some.is at c.in_ok-body.ensures in a.reach
 
-pub put_lines-p-requires : goal.put_lines-p-requires
-put_lines-p-requires c =
-    let ws = c.args.body.now in
-    let w = written ws (sym c.judge-judged.ensures ∙ c.in-Write.is) in (
-      omega (arith, c.first_end.ensures, first_end_few ws 3 (op_count ws), layout_few ws w.0),
-      rw (c.first_end.ensures, ← ops_run_lem ws) w.1,
-    )
-
-pub returns-in-Refuse : goal.returns-in-Refuse
+pub returns-in_err-body : goal.returns-in_err-body
 unfolding arm_entry
-returns-in-Refuse c =
-    rw (← c.judge-judged.ensures, c.in-Refuse.is) (record { number_is = refl; next_is = refl; put = put_none (omega arith) (omega arith) })
+returns-in_err-body c =
+    let p = err_from_is_err_and c.from_residual.result c.from_residual.ensures.1 in
+    rw (p.1, p.2, c.in_err-body.ensures) (record { number_is = refl; same = refl })
 
-pub returns-in-Skip : goal.returns-in-Skip
+pub returns-in-None : goal.returns-in-None
 unfolding arm_entry
-returns-in-Skip c =
-    rw (← c.judge-judged.ensures, c.in-Skip.is) (record { number_is = refl; next_is = refl; put = put_none (omega arith) (omega arith) })
+returns-in-None c =
+    let skip = rw c.in-None.is at c.in_ok-body.ensures in
+    rw skip (record { number_is = refl; next_is = refl; put = put_none (omega arith) (omega arith) })
 
-pub returns-in-Write : goal.returns-in-Write
-unfolding arm_entry arm_text
-returns-in-Write c =
-    let ws = c.args.body.now in
-    let text : List Op → List ℕ = λ os. run (word ws 0) (word ws 1) 0 0 no_pair os in
-    rw (← c.judge-judged.ensures, c.in-Write.is) (record {
-      number_is = refl;
-      next_is = refl;
-      put = put_as {s = text (ops_run ws 3 c.first_end.result)} c.put_lines-p.ensures
-          (ap text (ap (ops_run ws 3) c.first_end.ensures ∙ sym (ops_run_lem ws)));
-    })
+pub returns-in-Some : goal.returns-in-Some
+unfolding arm_entry
+returns-in-Some c =
+    let a = rw c.in-Some.is at c.in_ok-body.ensures in
+    rw a.judged_is (record { number_is = refl; next_is = refl; put = put_as c.put_lines-at.ensures a.text_is })

@@ -9,6 +9,3 @@ invariant-loop-i l = record {
   inside : l.at ≤ length l.book;
   same : bodies_ok l.book l.n 0 (first_body l.n) ≡ bodies_ok l.book (l.n - l.i) l.i l.at;
 }
-
-abbrev pub decreases-loop-i : goal.decreases-loop-i
-decreases-loop-i l = l.n - l.i

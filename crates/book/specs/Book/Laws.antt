@@ -6,6 +6,7 @@ use mathlib.Core.List.{List, [], ◌∷◌, ◌++◌}
 use Rattle.std.proofs.lemmas.Bool.{false≢true}
 use Prim.Native.Nat.{ℕ, zero, suc, ◌+◌, ◌-◌, ◌≤◌, ◌<◌}
 use native.Mathlib.Omega.{arith}
+use Rattle.std.proofs.Math.Nat.{sub-zero}
 use Rattle.std.proofs.Math.ListN.{length, take}
 use Rattle.std.proofs.Math.Seq.{drop-drop, drop-length}
 use borrow.Author.Tests.{leb-true, eqb-true}
@@ -106,3 +107,27 @@ module _ (b : List ℕ) where
   pub bodies_at : (i : ℕ) → i < count b → bodies b ≡ take i (bodies b) ++ (body b i ∷ drop (suc i) (bodies b))
   unfolding bodies
   bodies_at i h = let z : 0 + i ≡ i = omega arith in rw z at (listed (count b) 0 i h)
+
+  -- of the bodies from i on the first is body i; behind the last there is none
+  pub bodies_more : (i : ℕ) → i < count b → bodies_from b i (count b - i) ≡ body b i ∷ bodies_from b (i + 1) (count b - (i + 1))
+  unfolding bodies_from
+  bodies_more i h = let z : count b - i ≡ suc (count b - (i + 1)) = omega arith in let y : suc i ≡ i + 1 = omega arith in rw (z, y) refl
+
+  pub bodies_none : (i : ℕ) → count b ≤ i → bodies_from b i (count b - i) ≡ []
+  unfolding bodies_from
+  bodies_none i h = let z : count b - i ≡ 0 = omega arith in rw z refl
+
+  -- from body 0 on there are all
+  pub bodies_all : bodies_from b 0 (count b - 0) ≡ bodies b
+  unfolding bodies
+  bodies_all = rw sub-zero refl
+
+  counted : (k i : ℕ) → length (bodies_from b i k) ≡ k
+  unfolding bodies_from
+  counted zero i = refl
+  counted (suc k) i = ap suc (counted k (suc i))
+
+  -- there are as many as the count says
+  pub bodies_count : length (bodies b) ≡ count b
+  unfolding bodies
+  bodies_count = counted (count b) 0

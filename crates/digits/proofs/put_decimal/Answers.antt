@@ -1,12 +1,12 @@
--- `put_decimal`: up to three digits one after the other, else the digits in base 10.
-use Rattle.std.proofs.Common.{arith, ◌/◌}
+-- `put_decimal`: up to three digits one after the other.
+use Rattle.std.proofs.Common.{arith, rules, ◌/◌}
 use Rattle.digits.specs.Digits.{decimal}
 use Rattle.digits.specs.Digits.Laws.{put_digit, put_digits}
 use Rattle.digits.proofs.put_decimal.Goals as goal
 
 pub returns-then-x-lt10 : goal.returns-then-x-lt10
 unfolding decimal
-returns-then-x-lt10 c = put_digit 10 c.args.x c.put_byte.ensures c.digit_of.ensures (omega arith)
+returns-then-x-lt10 c = search (rules, put_digit)
 
 pub returns-then-x-lt100 : goal.returns-then-x-lt100
 unfolding decimal
@@ -22,7 +22,3 @@ returns-then-x-lt1000 c =
     let p1 = put_digit 10 (x / 10 / 10) c.put_byte-p-then-x-lt1000.ensures c.digit_of-then-x-lt1000.ensures (omega arith) in
     let p2 = put_digits 10 (x / 10) p1 c.put_byte-p-then-x-lt1000-2.ensures c.digit_of-then-x-lt1000-2.ensures (omega arith) (omega arith) in
     put_digits 10 x p2 c.put_byte-then-x-lt1000.ensures c.digit_of-then-x-lt1000-3.ensures (omega arith) (omega arith)
-
-pub returns : goal.returns
-unfolding decimal
-returns c = c.put_digits.ensures

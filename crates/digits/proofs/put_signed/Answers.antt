@@ -4,16 +4,17 @@ use Rattle.std.proofs.Math.Facts.{to_z-of_z}
 use Rattle.text.specs.Text.Laws.{◌⨾◌, put_as}
 use Rattle.digits.specs.Digits.{decimal}
 use Rattle.digits.specs.Digits.Laws.{signed_neg, signed_pos}
+use Rattle.digits.proofs.put_signed.Goals.{then-x-lt0, else-x-lt0}
 use Rattle.digits.proofs.put_signed.Goals as goal
-
-pub returns-then-x-lt0 : goal.returns-then-x-lt0
-returns-then-x-lt0 c =
-    let z = to_z-of_z c.ranges.x in
-    put_as (c.put_byte-p.ensures ⨾ c.put_decimal.ensures)
-    (ap (λ (k : ℕ). 45 ∷ decimal k) (c.magnitude-m.ensures ∙ ap nat_abs z) ∙ sym (signed_neg c.args.x (rw z at c.if-x-lt0.true)))
 
 pub returns : goal.returns
 returns c =
     let z = to_z-of_z c.ranges.x in
-    put_as c.put_decimal-2.ensures
-    (ap decimal (c.magnitude-m.ensures ∙ ap nat_abs z) ∙ sym (signed_pos c.args.x (rw z at c.if-x-lt0.false)))
+    let m = c.unsigned_abs.ensures.value ∙ ap nat_abs z in
+    elim c.if-x-lt0.branch [
+      | then-x-lt0 w ↦
+          put_as (w.put_byte-p.ensures ⨾ (rw (w.out-is, w.p-is) at c.put_decimal.ensures))
+          (ap (λ (k : ℕ). 45 ∷ decimal k) m ∙ sym (signed_neg c.args.x (rw z at w.if-x-lt0.true)))
+      | else-x-lt0 w ↦
+          put_as (rw (w.out-is, w.p-is) at c.put_decimal.ensures) (ap decimal m ∙ sym (signed_pos c.args.x (rw z at w.if-x-lt0.false)))
+    ]

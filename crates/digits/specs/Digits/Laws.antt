@@ -1,14 +1,14 @@
 -- Laws of the digits, once for every base up to 16: they are read back, so a number has one text; they are digits only, at least one, and few.
-use Rattle.std.specs.Prelude.{◌≡◌, refl, ℕ, zero, suc, ◌+◌, ◌-◌, ◌*◌, ◌/◌, ◌%◌, ◌^◌, ◌≤◌, ◌<◌, Bool, true, false, not, ◌&&◌, ◌||◌, List, [], ◌∷◌, ◌++◌, length, T, leb, eqb, ℤ, pos, negsuc, nat_abs}
-use Rattle.std.proofs.Common.{sym, ap, ◌∙◌, subst, div-add-mod', div-lt_iff_lt-mul, mod-lt, le_refl, pow-suc, one-mul, arith, length-append, ltb-true, lt-ltb, le-ltb}
-use Rattle.std.proofs.Math.Nat.{div-lt_self, pow-zero}
+use Rattle.std.specs.Prelude.{◌≡◌, refl, ℕ, zero, suc, ◌+◌, ◌-◌, ◌*◌, ◌/◌, ◌%◌, ◌^◌, ◌≤◌, ◌<◌, max, List, [], ◌∷◌, ◌++◌, length, ℤ, pos, negsuc, nat_abs}
+use Rattle.std.specs.Prelude.{Bool, true, false, not, ◌&&◌, ◌||◌, T, leb, eqb}
+use Rattle.std.proofs.Common.{sym, ap, ◌∙◌, subst, arith, length-append, ltb-true, lt-ltb, le-ltb}
+use Rattle.std.proofs.Common.{div-add-mod', div-lt_iff_lt-mul, le-div_iff_mul-le, mod-lt, le_refl, le_trans, pow_mono, pow-add, pow-suc, one-mul}
+use Rattle.std.proofs.Math.Nat.{div-lt_self, le-mul_of_pos_right, mul_assoc, mul_comm, mul-one, one-le-pow, pow-zero}
 use Rattle.std.proofs.Math.Decide.{dec_lt}
-use Rattle.std.specs.Int.Count.{count_leading_zeros}
-use Rattle.std.proofs.lemmas.Nat.{leading_top}
+use Rattle.std.proofs.lemmas.Nat.{mul-pow}
 use Rattle.std.specs.Int.Signed.{lt_z}
 use Rattle.text.specs.Text.{ascii, Put}
 use Rattle.text.specs.Text.Laws.{◌⨾◌}
-use Rattle.text.specs.Bits.{width}
 use Rattle.text.specs.Tests.{is_false, all, all_append, tests, at, both, and_l}
 use Rattle.digits.specs.Digits.{digit, digits_in, digits, hex, decimal, signed, undigit, value, read_hex, read_decimal, read_signed, Digits·open}
 
@@ -155,15 +155,34 @@ pub decimal_length : (n : ℕ) → n < 2 ^ 64 → length (decimal n) ≤ 20
 unfolding decimal
 decimal_length n h = digits_length 10 19 n (omega arith) (omega arith)
 
--- how many, by the highest bit
-pub hex_count : (n : ℕ) → 16 ≤ n → n < 2 ^ 64 → length (hex n) ≡ (67 - count_leading_zeros 64 n) / 4
-unfolding hex
-hex_count n h k =
-    let t = leading_top 64 n (omega arith) k in
-    width (λ m. length (digits 16 m)) 4 (2 ^ 64) (omega arith) (λ m p l. ap length (digits_one 16 m l)) more t.0 n t.2 t.3 k ∙ omega (arith, t.1)
+-- how many: one more than the power of the base that the number reaches; 0 is counted as 1
+pub digits_count : (b k n : ℕ) → 1 < b → b ^ k ≤ max n 1 → n < b * b ^ k → length (digits b n) ≡ suc k
+digits_count b k n two lo hi = digits_ind b (λ m ds. (j : ℕ) → b ^ j ≤ max m 1 → m < b * b ^ j → length ds ≡ suc j) two one more n k lo hi
   where
-    more : (m : ℕ) → 2 ^ 4 ≤ m → m < 2 ^ 64 → length (digits 16 m) ≡ suc (length (digits 16 (m / 2 ^ 4)))
-    more m l f = ap length (digits_more 16 m (omega arith) l) ∙ length-append (digits 16 (m / 16)) (digit (m % 16) ∷ []) ∙ omega arith
+    reach : (j : ℕ) → 0 < b ^ j
+    reach j = one-le-pow j b (omega arith)
+
+    one : (m : ℕ) → m < b → (j : ℕ) → b ^ j ≤ max m 1 → m < b * b ^ j → 1 ≡ suc j
+    one m l zero p q = refl
+    one m l (suc j) p q = absurd (omega (arith, pow-suc b j, mul_comm (b ^ j) b, le-mul_of_pos_right b (reach j)))
+
+    more : (m : ℕ) (ds : List ℕ) → b ≤ m → ((j : ℕ) → b ^ j ≤ max (m / b) 1 → m / b < b * b ^ j → length ds ≡ suc j) → (j : ℕ)
+        → b ^ j ≤ max m 1 → m < b * b ^ j → length (ds ++ (digit (m % b) ∷ [])) ≡ suc j
+    more m ds l r zero p q = let h : m < b = rw (pow-zero b, mul-one b) at q in absurd (omega arith)
+    more m ds l r (suc j) p q =
+        let lo : b ^ j ≤ m / b = (le-div_iff_mul-le (omega arith)).1 (omega (arith, pow-suc b j)) in
+        let hi : m / b < b * b ^ j = (div-lt_iff_lt-mul (omega arith)).1 (rw (mul_assoc b (b ^ j) b, ← pow-suc b j) q) in
+        rw length-append (omega (arith, r j (omega arith) hi))
+
+-- of hexadecimal, by the highest bit
+pub hex_count : (j n : ℕ) → 2 ^ j ≤ max n 1 → n < 2 * 2 ^ j → length (hex n) ≡ suc (j / 4)
+unfolding hex
+hex_count j n lo hi = digits_count 16 (j / 4) n (omega arith)
+    (le_trans (rw (sixteen (j / 4)) (pow_mono {i = 4 * (j / 4)} {j = j} (omega arith))) lo)
+    (omega (arith, pow-suc 2 j, pow-suc 16 (j / 4), sixteen (suc (j / 4)), pow_mono {i = suc j} {j = 4 * suc (j / 4)} (omega arith)))
+  where
+    sixteen : (k : ℕ) → 16 ^ k ≡ 2 ^ (4 * k)
+    sixteen k = let e : 4 * k ≡ k + k + (k + k) = omega arith in rw (e, pow-add 2 (k + k) (k + k), pow-add 2 k k, ← mul-pow 2 2 k, ← mul-pow 4 4 k)
 
 -- ---- with a sign
 

@@ -1,21 +1,33 @@
--- `process_fde`: by the judgement.
-use Rattle.std.proofs.Common.{refl, sym, ◌∙◌, arith}
-use Rattle.text.specs.Text.Laws.{put_none}
-use Rattle.dwarf.specs.Dwarf.{dwarf_entry}
-use Rattle.dwarf.specs.Index.{written}
+-- `process_fde`: by the layout and the judgement.
+use Rattle.std.proofs.Common.{refl, sym, ap, ◌∙◌, arith, Ok}
+use Rattle.std.proofs.lemmas.Result.{err_from_is_err_and}
+use Rattle.text.specs.Text.Laws.{put_as, put_none}
+use Rattle.dwarf.specs.Dwarf.{dwarf_text, dwarf_entry, dwarf_judged}
 use Rattle.dwarf.proofs.process_fde.Goals as goal
 
-pub put_entry-p-requires : goal.put_entry-p-requires
-put_entry-p-requires c = written c.args.body.now (sym c.judge-judged.ensures ∙ c.in-Write.is)
+pub returns-in_err-body : goal.returns-in_err-body
+unfolding dwarf_entry dwarf_judged
+returns-in_err-body c =
+    let p = err_from_is_err_and c.from_residual.result c.from_residual.ensures.1 in
+    let e = c.in_err-body.ensures in
+    rw (p.1, p.2, e.0, e.1) (record { number_is = refl; same = refl })
 
-pub returns-in-Refuse : goal.returns-in-Refuse
+pub returns-in_err-judge : goal.returns-in_err-judge
 unfolding dwarf_entry
-returns-in-Refuse c = rw (← c.judge-judged.ensures, c.in-Refuse.is) (record { number_is = refl; next_is = refl; put = put_none (omega arith) (omega arith) })
+returns-in_err-judge c =
+    let p = err_from_is_err_and c.from_residual-in_err-judge.result c.from_residual-in_err-judge.ensures.1 in
+    let e = c.in_ok-body.ensures in
+    let j = ap dwarf_judged (sym e) ∙ sym c.judge.ensures ∙ c.in_err-judge.was in
+    rw (p.1, p.2, j) (record { number_is = refl; same = refl })
 
 pub returns-in-Skip : goal.returns-in-Skip
 unfolding dwarf_entry
-returns-in-Skip c = rw (← c.judge-judged.ensures, c.in-Skip.is) (record { number_is = refl; next_is = refl; put = put_none (omega arith) (omega arith) })
+returns-in-Skip c =
+    let j = ap dwarf_judged (sym c.in_ok-body.ensures) ∙ sym c.judge.ensures ∙ c.in_ok-judge.was ∙ ap Ok c.in-Skip.is in
+    rw j (record { number_is = refl; next_is = refl; put = put_none (omega arith) (omega arith) })
 
 pub returns-in-Write : goal.returns-in-Write
 unfolding dwarf_entry
-returns-in-Write c = rw (← c.judge-judged.ensures, c.in-Write.is) (record { number_is = refl; next_is = refl; put = c.put_entry-p.ensures })
+returns-in-Write c =
+    let j = ap dwarf_judged (sym c.in_ok-body.ensures) ∙ sym c.judge.ensures ∙ c.in_ok-judge.was ∙ ap Ok c.in-Write.is in
+    rw j (record { number_is = refl; next_is = refl; put = put_as c.put_entry-at.ensures (ap dwarf_text c.in_ok-body.ensures) })

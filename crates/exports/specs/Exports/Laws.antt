@@ -1,15 +1,16 @@
 -- The call's contract with the counts stored, or not.
 use Rattle.std.specs.Prelude.{refl, List, ℕ, ◌≤◌, ◌<◌, length, set}
 use Rattle.std.proofs.Common.{lt-ltb, le-ltb}
+use Rattle.refusal.specs.Refusal.{answer_number}
 use Rattle.translate.specs.declared.Returned.{Returned}
 use Rattle.translate.specs.Outcome.{Outcome, Called}
 use Rattle.exports.specs.Exports.{Exported}
 
 module _ {o : Outcome} {w' t' : List ℕ} {r : Returned} (p : Called o w' t' r) (c : List ℕ) where
-  pub exported_none : length c < 2 → Exported o c w' t' c r.number
+  pub exported_none : length c < 2 → Exported o c w' t' c (answer_number r.answer)
   exported_none h = record { number_is = p.number_is; work_is = p.work_is; text_is = p.text_is; counts_is = rw (lt-ltb (length c) 2 h) refl }
 
-  pub exported : 2 ≤ length c → Exported o c w' t' (set (set c 0 r.entries) 1 r.length) r.number
+  pub exported : 2 ≤ length c → Exported o c w' t' (set (set c 0 r.entries) 1 r.length) (answer_number r.answer)
   exported h = record {
     number_is = p.number_is;
     work_is = p.work_is;

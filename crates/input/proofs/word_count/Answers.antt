@@ -9,11 +9,6 @@ returns-then-bytes-gt-MOST_BYTES c = (too_long c.args.bytes c.args.room (omega a
 pub returns-then-bytes-ne0 : goal.returns-then-bytes-ne0
 returns-then-bytes-ne0 c = (broken c.args.bytes c.args.room (omega arith) (λ e. omega arith), omega arith, omega arith)
 
-pub returns-then-room-bytes : goal.returns-then-room-bytes
-returns-then-room-bytes c =
-    let e = whole c.args.bytes c.args.room (omega arith) (omega arith) in
-    (omega (arith, e), omega arith, omega arith)
-
 pub returns : goal.returns
 returns c =
     let e = whole c.args.bytes c.args.room (omega arith) (omega arith) in

@@ -1,5 +1,5 @@
 -- The text of a PDB entry is the text of its sense, and no tail holds a newline.
-use Rattle.std.specs.Prelude.{◌≡◌, ℕ, ◌-◌, ◌≤◌, ◌<◌, Bool, true, false, not, ◌&&◌, T, ltb, leb, eqb}
+use Rattle.std.specs.Prelude.{◌≡◌, ℕ, ◌-◌, ◌≤◌, ◌<◌, Bool, true, false, not, ◌&&◌, T, ltb, leb, eqb, Option, Some}
 use Rattle.std.proofs.Math.Path.{refl, ap}
 use Rattle.std.proofs.Common.{sym, ap₂, ◌∙◌, arith, leb→le}
 use Rattle.std.proofs.Math.Decide.{dec_lt, ℕ_discrete}
@@ -12,6 +12,7 @@ use Rattle.digits.specs.Digits.Laws.{hex_all}
 use Rattle.lines.specs.declared.StackInfo.{StackInfo}
 use Rattle.lines.specs.Lines.{line_text, render, line_ok}
 use Rattle.lines.specs.Lines.Laws.{render_append, render_unless}
+use Rattle.refusal.specs.declared.Refusal.TheVariants.{Reach}
 use Rattle.entry.specs.declared.Last.{Last}
 use Rattle.entry.specs.Entry.{word}
 use Rattle.entry.specs.Entry.Laws.{Accepted, accepted}
@@ -127,7 +128,7 @@ meets_contiguous ws = go (ℕ_discrete (word ws 12) 1) (ℕ_discrete (word ws 13
     go : Dec (word ws 12 ≡ 1) → Dec (word ws 13 ≡ 1)
         → (eqb (word ws 12) 1 && (eqb (word ws 13) 1 && eqb (end_of (range_at ws 15)) (start_of (range_at ws 17)))) ≡ contiguous (prologs ws) (codes ws)
     go (yes e) (yes f) = rw (eq-eqb (word ws 12) 1 e, eq-eqb (word ws 13) 1 f) (one_each ws e f)
-    go (yes e) (no f) = rw (eq-eqb (word ws 12) 1 e, ne_eqb (word ws 13) 1 f) (apart_codes ws e f)
+    go (yes e) (no f) = rw (eq-eqb (word ws 12) 1 e, ne_eqb (word ws 13) 1 f) (apart_codes ws f)
     go (no e) u = rw (ne_eqb (word ws 12) 1 e) (apart_prologs ws e)
 
 -- ---- the text is these lines' text
@@ -167,11 +168,11 @@ pdb_text_lem ws = rw (← meets_contiguous ws) (go (meets ws))
 
 -- ---- an entry that is not refused: its text is that of its lines, unless it is skipped
 
-pub pdb_accepted : (last : Last) (ws : List ℕ) → (pdb_entry last ws).number ≡ 0 → Accepted (pdb_layout ws) (pdb_skipped last ws) (pdb_judged last ws) (pdb_text ws) last (leaves ws)
+pub pdb_accepted : (last : Option Last) (ws : List ℕ) → (pdb_entry last ws).number ≡ 0 → Accepted (pdb_layout ws) (pdb_skipped last ws) (pdb_judged last ws) (pdb_text ws) last (Some (leaves ws))
 unfolding pdb_entry pdb_judged
-pdb_accepted last ws = accepted (pdb_layout ws) (pdb_skipped last ws) (in_reach ws) 6 (pdb_text ws) last (leaves ws) (λ e z. omega arith)
+pdb_accepted last ws = accepted (pdb_layout ws) (pdb_skipped last ws) (in_reach ws) Reach (pdb_text ws) last (Some (leaves ws))
 
-pub pdb_entry_text : (last : Last) (ws : List ℕ) → (pdb_entry last ws).number ≡ 0 → (pdb_entry last ws).text ≡ render false (cond (pdb_skipped last ws) [] (pdb_lines ws))
+pub pdb_entry_text : (last : Option Last) (ws : List ℕ) → (pdb_entry last ws).number ≡ 0 → (pdb_entry last ws).text ≡ render false (cond (pdb_skipped last ws) [] (pdb_lines ws))
 unfolding pdb_entry
 pdb_entry_text last ws e = (pdb_accepted last ws e).text_is ∙ render_unless false (pdb_skipped last ws) (pdb_text ws) (pdb_lines ws) (pdb_text_lem ws)
 
@@ -200,6 +201,6 @@ unfolding win_line
 lines_ok ws [] h = tt
 lines_ok ws (i ∷ is) h = both (line_ok (win_line ws i)) _ (tail_ok ws h) (lines_ok ws is h)
 
-pub pdb_entry_ok : (last : Last) (ws : List ℕ) → (pdb_entry last ws).number ≡ 0 → T (all line_ok (pdb_lines ws))
+pub pdb_entry_ok : (last : Option Last) (ws : List ℕ) → (pdb_entry last ws).number ≡ 0 → T (all line_ok (pdb_lines ws))
 unfolding pdb_lines
 pdb_entry_ok last ws e = lines_ok ws (stack_infos ws) (pdb_accepted last ws e).keeps

@@ -1,5 +1,6 @@
 -- `same_records`: what the two calls and the comparison ensure (`compares`).
 use Rattle.std.proofs.Common.{◌≡◌, ℕ, take, ◌∙◌, ap₂}
+use Rattle.refusal.specs.Refusal.{answer_number}
 use Rattle.book.specs.Book.{kind}
 use Rattle.records.specs.declared.Compared.{Compared}
 use Rattle.records.specs.Compare.{compared_of}
@@ -12,6 +13,6 @@ returns c =
     let p = c.translate-a in
     let q = c.translate-b in
     let of : ℕ → ℕ → Compared
-    = λ (k l : ℕ). compared_of p.result.number q.result.number k l (take p.result.length p.new.text) (take q.result.length q.new.text) in
+    = λ (k l : ℕ). compared_of (answer_number p.result.answer) (answer_number q.result.answer) k l (take p.result.length p.new.text) (take q.result.length q.new.text) in
     let e : c.compare.result ≡ of (kind a.book_a.now) (kind a.book_b.now) = c.compare.ensures ∙ ap₂ of c.kind_of-first.ensures c.kind_of-second.ensures in
     compares a.book_a.now a.limit_a a.work_a.now a.text_a.now a.book_b.now a.limit_b a.work_b.now a.text_b.now p.ensures q.ensures e

@@ -1,8 +1,11 @@
 -- That the comparison keeps its contract, from the answer and the two calls.
-use Rattle.std.specs.Prelude.{◌↔◌, ◌≡◌, refl, List, Bool, true, false, cond, ℕ, take}
+use Rattle.std.specs.Prelude.{◌↔◌, ◌≡◌, refl, List, Bool, true, false, cond, ℕ, Result, Ok, Err, is_err, take}
 use Rattle.std.proofs.Common.{sym, ◌∙◌, arith, eq-eqb}
 use Rattle.std.proofs.lemmas.Bool.{false≢true}
 use Rattle.text.specs.Tests.{eqw, eqw→eq, eqw_refl, is_true}
+use Rattle.refusal.specs.declared.Refusal.{Refusal}
+use Rattle.refusal.specs.Refusal.{answer_number}
+use Rattle.refusal.specs.Refusal.Laws.{numbered}
 use Rattle.book.specs.Book.{kind}
 use Rattle.translate.specs.declared.Returned.{Returned}
 use Rattle.translate.specs.Outcome.{outcome, Called}
@@ -29,10 +32,19 @@ same_texts k₁ k₂ x₁ x₂ e = rw (eq-eqb k₁ k₂ e) ((λ q. eqw→eq x₁
     taken true q = refl
     taken false q = let z : ◌≡◌ {A = ℕ} 0 1 = cc in absurd (omega arith)
 
+-- a call's number is 0 just where it was not refused
+pub refused_number : {A : Type 0} (r : Result A Refusal) → is_err r ≡ true → answer_number r ≡ 0 → ⊥
+refused_number (Ok a) e z = false≢true e
+refused_number (Err r) e z = numbered r z
+
+pub done_number : {A : Type 0} (r : Result A Refusal) → is_err r ≡ false → answer_number r ≡ 0
+done_number (Ok a) e = refl
+done_number (Err r) e = absurd (false≢true (sym e))
+
 -- all of it from the answer and the two calls
 pub compares : (b₁ : List ℕ) (l₁ : ℕ) (w₁ t₁ b₂ : List ℕ) (l₂ : ℕ) (w₂ t₂ : List ℕ) {w₁' t₁' w₂' t₂' : List ℕ} {r₁ r₂ : Returned} {r : Compared}
     → Called (outcome b₁ l₁ w₁ t₁) w₁' t₁' r₁ → Called (outcome b₂ l₂ w₂ t₂) w₂' t₂' r₂
-    → r ≡ compared_of r₁.number r₂.number (kind b₁) (kind b₂) (take r₁.length t₁') (take r₂.length t₂')
+    → r ≡ compared_of (answer_number r₁.answer) (answer_number r₂.answer) (kind b₁) (kind b₂) (take r₁.length t₁') (take r₂.length t₂')
     → Compares (outcome b₁ l₁ w₁ t₁) (outcome b₂ l₂ w₂ t₂) (kind b₁) (kind b₂) (sense b₁ l₁) (sense b₂ l₂) w₁' t₁' w₂' t₂' r
 compares b₁ l₁ w₁ t₁ b₂ l₂ w₂ t₂ {r = r} p q e =
     let o₁ = outcome b₁ l₁ w₁ t₁ in

@@ -1,60 +1,41 @@
--- `entries`: the next entry ends the walk or goes on; its body lies within the book.
-use Rattle.std.proofs.Common.{◌+◌, ◌≤◌, ◌<◌, length, arith}
-use Rattle.book.specs.Book.{count}
-use Rattle.book.specs.Book.Laws.{contents_header, body_within, part_is}
+-- `entries`: the next entry ends the walk or goes on.
+use Rattle.std.proofs.Common.{◌<◌, length, ap, ◌∙◌, arith}
+use Rattle.text.specs.Text.{MAX}
+use Rattle.book.specs.Book.Laws.{contents_header, bodies_count}
+use Rattle.book.specs.Bodies.{left}
 use Rattle.translate.specs.Outcome.Laws.{going_none, going_more, going_stop, going_end}
 use Rattle.translate.proofs.entries.Goals as goal
-use Rattle.translate.proofs.entries.Goals.{After-size_of}
 
--- the turn's body lies within the book
-inside : (c : After-size_of) → c.start_of-a.result + c.size_of.result ≤ length c.args.book.now
-inside c =
-    let b = c.args.book.now in
-    let h : c.loop-i.i < count b = omega (arith, c.count_of-n.ensures) in
-    omega (arith, body_within b c.requires.0 c.loop-i.i h, c.start_of-a.ensures, c.size_of.ensures)
-
-pub loop-i-init : goal.loop-i-init
-loop-i-init c =
-    let b = c.args.book.now in
-    let h = contents_header b c.requires.0 in
+pub loop-body-init : goal.loop-body-init
+loop-body-init c =
+    let b = c.args.book.words.now in
+    let e = ap left c.into_iter-body-iterator.ensures.into_iter_gives ∙ c.bodies-body-items.ensures in
+    let h = contents_header b c.args.book.kept in
+    let small : length c.args.text.now < MAX = omega arith in
     record {
-      within = omega arith;
-      few = omega (arith, h.few, c.count_of-n.ensures);
-      most = omega (arith, h.most);
-      area = omega arith;
-      going = rw c.none-last.ensures (going_none b c.args.limit c.args.text.now (omega arith));
+      area = c.requires;
+      few = omega (arith, ap length e, bodies_count b, h.few);
+      going = going_none b c.args.limit c.args.text.now (left c.into_iter-body-iterator.result) e small;
     }
 
-pub overflow_add-e : goal.overflow_add-e
-overflow_add-e c = omega (arith, inside c)
+pub step-requires : goal.step-requires
+step-requires c = (c.loop-body.invariant.area, omega (arith, c.loop-body.invariant.going.fits, c.loop-body.auto.text))
 
-pub offset_bounds-book-a : goal.offset_bounds-book-a
-offset_bounds-book-a c = omega (arith, inside c)
+pub returns-in-Err : goal.returns-in-Err
+returns-in-Err c =
+    going_stop c.loop-body.invariant.going c.in-Some.body.now (left c.next.new.self) c.in-Some.ensures.steps c.in-Err.refusal c.step.new.text
+    (rw c.kind-kind.ensures at c.in-Err.ensures)
 
-pub slice_bounds-step-end : goal.slice_bounds-step-end
-slice_bounds-step-end c = omega (arith, inside c)
+pub loop-body-preserved : goal.loop-body-preserved
+loop-body-preserved c = record {
+  area = omega (arith, c.step.auto.work, c.loop-body.invariant.area);
+  few = omega (arith, ap length c.in-Some.ensures.steps, c.loop-body.invariant.few);
+  going = going_more c.loop-body.invariant.going c.in-Some.body.now (left c.next.new.self) c.in-Some.ensures.steps c.in-Ok.after c.step.new.text
+      (rw c.kind-kind.ensures at c.in-Ok.ensures);
+}
 
-pub returns-then-number-ne-NONE : goal.returns-then-number-ne-NONE
-returns-then-number-ne-NONE c =
-    let g = c.loop-i.invariant.going in
-    let i = c.loop-i.i in
-    going_stop g (omega (arith, c.count_of-n.ensures, c.loop-i-test.true))
-    (rw (part_is c.args.book.now i c.start_of-a.result c.size_of.result c.start_of-a.ensures c.size_of.ensures, c.kind_of-kind.ensures) at c.step-s.ensures)
-    c.if-number-ne-NONE.true
-
-pub loop-i-preserved : goal.loop-i-preserved
-loop-i-preserved c =
-    let g = c.loop-i.invariant.going in
-    let i = c.loop-i.i in
-    record {
-      within = omega arith;
-      few = c.loop-i.invariant.few;
-      most = c.loop-i.invariant.most;
-      area = omega (arith, c.step-s.auto, c.loop-i.invariant.area);
-      going = going_more g (omega (arith, c.count_of-n.ensures, c.loop-i-test.true))
-          (rw (part_is c.args.book.now i c.start_of-a.result c.size_of.result c.start_of-a.ensures c.size_of.ensures, c.kind_of-kind.ensures) at c.step-s.ensures)
-          c.if-number-ne-NONE.false;
-    }
+pub overflow_add-entries : goal.overflow_add-entries
+overflow_add-entries c = omega (arith, c.loop-body.invariant.few)
 
 pub returns : goal.returns
-returns c = going_end c.loop-i.invariant.going c.count_of-n.ensures (omega arith)
+returns c = going_end c.loop-body.invariant.going c.in-None.ensures.steps.0

@@ -1,18 +1,14 @@
--- `entries`: the first i entries are done (`Going`).
-use Rattle.std.proofs.Common.{◌≡◌, ◌-◌, ◌≤◌, length}
+-- `entries`: the bodies that the iterator has left are to be done (`Going`).
+use Rattle.std.proofs.Common.{◌≡◌, ◌+◌, ◌≤◌, length}
 use Rattle.translate.specs.Outcome.{AREA}
 use Rattle.translate.specs.Outcome.Laws.{Going}
+use Rattle.book.specs.Bodies.{left}
 use Rattle.translate.proofs.entries.Given as goal
 
-abbrev pub invariant-loop-i : goal.invariant-loop-i
-invariant-loop-i l =
+abbrev pub invariant-loop-body : goal.invariant-loop-body
+invariant-loop-body l =
     record {
-      within : l.i ≤ l.n;
-      few : l.n ≤ 1024;
-      most : length l.book ≤ 16384;
       area : length l.work ≡ AREA;
-      going : Going l.book l.limit l.fn.text l.last l.i l.text l.used;
+      few : l.entries + length (left l.body-iterator) ≤ 1024;
+      going : Going l.fn.book.words.now l.limit l.fn.text l.next l.entries (left l.body-iterator) l.text;
     }
-
-abbrev pub decreases-loop-i : goal.decreases-loop-i
-decreases-loop-i l = l.n - l.i

@@ -1,29 +1,29 @@
 -- `translate`: refusals 1, 2, 3 or the run, each by its law.
-use Rattle.std.proofs.Common.{sym, ◌∙◌, arith, length-take-le}
+use Rattle.std.proofs.Common.{◌≡◌, arith, length-take-le}
 use Rattle.translate.specs.Outcome.{AREA}
 use Rattle.translate.specs.Outcome.Laws.{called_1, called_2, called_3, called_ran}
 use Rattle.translate.proofs.translate.Goals as goal
 
 pub returns-then-work-lt-AREA : goal.returns-then-work-lt-AREA
-returns-then-work-lt-AREA c = called_1 c.args.book.now c.args.limit c.args.work.now c.args.text.now c.if-work-lt-AREA.true
+returns-then-work-lt-AREA c = rw c.refused.ensures (called_1 c.args.book.now c.args.limit c.args.work.now c.args.text.now c.if-work-lt-AREA.true)
 
 pub returns-then-limit-gt-MOST_LIMIT : goal.returns-then-limit-gt-MOST_LIMIT
 returns-then-limit-gt-MOST_LIMIT c =
     let a = c.args in
-    called_2 a.book.now a.limit a.work.now a.text.now c.if-work-lt-AREA.false c.if-limit-gt-MOST_LIMIT.true
+    rw c.refused-then-limit-gt-MOST_LIMIT.ensures (called_2 a.book.now a.limit a.work.now a.text.now c.if-work-lt-AREA.false c.if-limit-gt-MOST_LIMIT.true)
 
 pub run-requires : goal.run-requires
-run-requires c = (sym c.contents.ensures ∙ c.if-contents.true, length-take-le AREA c.args.work.now (omega arith))
+run-requires c = length-take-le AREA c.args.work.now (omega arith)
 
-pub returns-then-contents : goal.returns-then-contents
-returns-then-contents c =
+pub returns-in-Ok : goal.returns-in-Ok
+returns-in-Ok c =
     let a = c.args in
     let r = c.run in
+    let e : c.in-Ok.book.words.now ≡ a.book.now = c.in-Ok.ensures in
     called_ran a.book.now a.limit a.work.now a.text.now c.if-work-lt-AREA.false c.if-limit-gt-MOST_LIMIT.false
-    (sym c.contents.ensures ∙ c.if-contents.true) r.new.work r.new.text r.result r.auto.text r.ensures.ended r.ensures.work_after
+    (rw e at c.in-Ok.book.kept) r.new.work r.new.text r.result r.auto.text (rw e at r.ensures.ended) r.ensures.work_after
 
-pub returns : goal.returns
-returns c =
+pub returns-in-Err : goal.returns-in-Err
+returns-in-Err c =
     let a = c.args in
-    called_3 a.book.now a.limit a.work.now a.text.now c.if-work-lt-AREA.false c.if-limit-gt-MOST_LIMIT.false
-    (sym c.contents.ensures ∙ c.if-contents.false)
+    rw (c.refused-in-Err.ensures, c.in-Err.ensures.0) (called_3 a.book.now a.limit a.work.now a.text.now c.if-work-lt-AREA.false c.if-limit-gt-MOST_LIMIT.false c.in-Err.ensures.1)

@@ -1,25 +1,58 @@
--- `process_pe`: by what it is before its chain is looked at, then by the chain.
-use Rattle.std.proofs.Common.{refl, sym, ◌∙◌, arith}
+-- `process_pe`: each refusal and skipping in their order, then the line.
+use Rattle.std.proofs.Common.{◌≡◌, refl, sym, ◌∙◌, None, Some, arith}
+use Rattle.std.proofs.lemmas.Result.{err_from_is_err_and}
+use Rattle.refusal.specs.declared.Refusal.TheVariants.{Layout}
 use Rattle.text.specs.Text.Laws.{put_none}
 use Rattle.x64.specs.X64.{x64_entry}
-use Rattle.x64.specs.Index.{judged_by_lem, admitted_fits}
+use Rattle.x64.specs.Index.{judged_broken, judged_skipped, judged_long, judged_chain}
 use Rattle.x64.proofs.process_pe.Goals as goal
 
-pub put_admitted-requires : goal.put_admitted-requires
-put_admitted-requires c = admitted_fits c.args.limit c.args.body.now (sym c.admit-judged.ensures ∙ c.in-Write.is)
-
-pub returns-in-Refuse : goal.returns-in-Refuse
+pub returns-in_err-body : goal.returns-in_err-body
 unfolding x64_entry
-returns-in-Refuse c =
-    rw (judged_by_lem c.args.limit c.args.body.now, ← c.admit-judged.ensures, c.in-Refuse.is)
+returns-in_err-body c =
+    let p = err_from_is_err_and c.from_residual.result c.from_residual.ensures.1 in
+    let none : c.new.result ≡ None = grind arith in
+    let layout : c.in_err-body.field-0.0 ≡ Layout = grind arith in
+    rw (p.1, p.2, layout, judged_broken c.args.limit c.args.body.now (rw none at c.new.ensures)) (record { number_is = refl; same = refl })
+
+pub returns-then-is_skipped : goal.returns-then-is_skipped
+unfolding x64_entry
+returns-then-is_skipped c =
+    let some : c.new.result ≡ Some c.in_ok-body.body = grind arith in
+    rw (← (rw some at c.new.ensures), judged_skipped c.args.limit _ c.in_ok-body.body.fits (sym c.is_skipped.ensures ∙ c.if-is_skipped.true))
     (record { number_is = refl; next_is = refl; put = put_none (omega arith) (omega arith) })
 
-pub returns-in-Skip : goal.returns-in-Skip
+pub returns-then-limit-info_count : goal.returns-then-limit-info_count
 unfolding x64_entry
-returns-in-Skip c =
-    rw (judged_by_lem c.args.limit c.args.body.now, ← c.admit-judged.ensures, c.in-Skip.is)
-    (record { number_is = refl; next_is = refl; put = put_none (omega arith) (omega arith) })
+returns-then-limit-info_count c =
+    let some : c.new.result ≡ Some c.in_ok-body.body = grind arith in
+    rw (
+      ← (rw some at c.new.ensures),
+      judged_long c.args.limit _ c.in_ok-body.body.fits (sym c.is_skipped.ensures ∙ c.if-is_skipped.false) (omega (arith, c.info_count.ensures)),
+    ) (record { number_is = refl; same = refl })
 
-pub returns-in-Write : goal.returns-in-Write
+pub returns-in_err-scan : goal.returns-in_err-scan
 unfolding x64_entry
-returns-in-Write c = rw (judged_by_lem c.args.limit c.args.body.now, ← c.admit-judged.ensures, c.in-Write.is) c.put_admitted.ensures
+returns-in_err-scan c =
+    let some : c.new.result ≡ Some c.in_ok-body.body = grind arith in
+    let p = err_from_is_err_and c.from_residual-in_err-scan.result c.from_residual-in_err-scan.ensures.1 in
+    rw (
+      p.1,
+      p.2,
+      ← (rw some at c.new.ensures),
+      judged_chain c.args.limit _ c.in_ok-body.body.fits (sym c.is_skipped.ensures ∙ c.if-is_skipped.false) (omega (arith, c.info_count.ensures)),
+      c.in_err-scan.ensures,
+    ) (record { number_is = refl; same = refl })
+
+pub put_entry-at-requires : goal.put_entry-at-requires
+put_entry-at-requires c = c.in_ok-scan.ensures.1
+
+pub returns : goal.returns
+unfolding x64_entry
+returns c =
+    let some : c.new.result ≡ Some c.in_ok-body.body = grind arith in
+    rw (
+      ← (rw some at c.new.ensures),
+      judged_chain c.args.limit _ c.in_ok-body.body.fits (sym c.is_skipped.ensures ∙ c.if-is_skipped.false) (omega (arith, c.info_count.ensures)),
+      c.in_ok-scan.ensures.0,
+    ) (record { number_is = refl; next_is = refl; put = c.put_entry-at.ensures })

@@ -1,53 +1,24 @@
 -- `judge`: one test after the other.
-use Rattle.std.proofs.Common.{◌≡◌, true, false, sym, ◌∙◌, arith}
-use Rattle.entry.specs.Entry.{word}
-use Rattle.arm64.specs.Arm64.{op_count, ops, no_pair, in_reach, arm_layout, arm_skipped, arm_judged}
-use Rattle.arm64.specs.Index.{ops_run_lem, first_end_few, layout_few}
+use Rattle.std.proofs.Common.{◌≡◌, None, arith}
+use Rattle.std.proofs.lemmas.Result.{err_from_is_err_and}
+use Rattle.refusal.specs.declared.Refusal.TheVariants.{Layout}
+use Rattle.arm64.specs.Arm64.{arm_judged}
+use Rattle.arm64.specs.Index.{skipped, out_of_reach, admitted}
 use Rattle.arm64.proofs.judge.judge.Goals as goal
 
-pub returns-then-not-layout : goal.returns-then-not-layout
+pub returns-in_err-body : goal.returns-in_err-body
 unfolding arm_judged
-returns-then-not-layout c = rw (sym c.layout.ensures ∙ c.if-not-layout.true)
-
-pub is_undecodable-requires : goal.is_undecodable-requires
-is_undecodable-requires c =
-    let ws = c.args.body.now in
-    let l : arm_layout ws ≡ true = sym c.layout.ensures ∙ c.if-not-layout.false in
-    layout_few ws (rw l tt)
+returns-in_err-body c =
+    let p = err_from_is_err_and c.from_residual.result c.from_residual.ensures.1 in
+    let none : c.layout.result ≡ None = grind arith in
+    let refused : c.in_err-body.field-0.0 ≡ Layout = grind arith in
+    rw (p.1, p.2, refused, rw none at c.layout.ensures)
 
 pub returns-then-is_undecodable : goal.returns-then-is_undecodable
-unfolding arm_judged arm_skipped
-returns-then-is_undecodable c =
-    let ws = c.args.body.now in
-    let l : arm_layout ws ≡ true = sym c.layout.ensures ∙ c.if-not-layout.false in
-    rw (l, sym c.is_undecodable.ensures ∙ c.if-is_undecodable.true)
-
-pub first_end-requires : goal.first_end-requires
-first_end-requires c =
-    let ws = c.args.body.now in
-    let l : arm_layout ws ≡ true = sym c.layout.ensures ∙ c.if-not-layout.false in
-    layout_few ws (rw l tt)
-
-pub reach-requires : goal.reach-requires
-reach-requires c =
-    let ws = c.args.body.now in
-    let l : arm_layout ws ≡ true = sym c.layout.ensures ∙ c.if-not-layout.false in
-    omega (arith, c.first_end.ensures, first_end_few ws 3 (op_count ws), layout_few ws (rw l tt))
+returns-then-is_undecodable c = skipped (rw (c.ok_or.ensures.ok_part, c.in_ok-body.was) at c.layout.ensures) c.if-is_undecodable.ensures
 
 pub returns-then-not-reach : goal.returns-then-not-reach
-unfolding arm_judged arm_skipped
-returns-then-not-reach c =
-    let ws = c.args.body.now in
-    let l : arm_layout ws ≡ true = sym c.layout.ensures ∙ c.if-not-layout.false in
-    let r : in_reach (word ws 0) 0 0 no_pair (ops ws) ≡ false =
-    rw (ops_run_lem ws, ← c.first_end.ensures) (sym c.reach.ensures ∙ c.if-not-reach.true) in
-    rw (l, sym c.is_undecodable.ensures ∙ c.if-is_undecodable.false, r)
+returns-then-not-reach c = out_of_reach (rw (c.ok_or.ensures.ok_part, c.in_ok-body.was) at c.layout.ensures) c.if-is_undecodable.ensures c.if-not-reach.ensures
 
 pub returns : goal.returns
-unfolding arm_judged arm_skipped
-returns c =
-    let ws = c.args.body.now in
-    let l : arm_layout ws ≡ true = sym c.layout.ensures ∙ c.if-not-layout.false in
-    let r : in_reach (word ws 0) 0 0 no_pair (ops ws) ≡ true =
-    rw (ops_run_lem ws, ← c.first_end.ensures) (sym c.reach.ensures ∙ c.if-not-reach.false) in
-    rw (l, sym c.is_undecodable.ensures ∙ c.if-is_undecodable.false, r)
+returns c = admitted (rw (c.ok_or.ensures.ok_part, c.in_ok-body.was) at c.layout.ensures) c.if-is_undecodable.ensures c.if-not-reach.ensures

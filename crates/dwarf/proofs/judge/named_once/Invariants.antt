@@ -1,14 +1,11 @@
 -- `named_once`: the rules left name none twice where all do.
-use Rattle.std.proofs.Common.{◌≡◌, ◌+◌, ◌*◌, ◌≤◌}
-use Rattle.dwarf.specs.Dwarf.{rules_from, registers, once}
+use Rattle.std.proofs.Common.{◌≡◌, length}
+use Rattle.dwarf.specs.Dwarf.{registers, once}
+use Rattle.dwarf.specs.Cache.{rules_left}
 use Rattle.dwarf.proofs.judge.named_once.Given as goal
 
-abbrev pub invariant-loop-k : goal.invariant-loop-k
-invariant-loop-k l = record {
-  at : l.a + 4 * l.k ≡ l.from + 4 * l.n;
-  few : l.k ≤ l.n;
-  same : once (registers (rules_from l.body l.k l.a)) ≡ once (registers (rules_from l.body l.n l.from));
-}
+abbrev pub invariant-loop-rule : goal.invariant-loop-rule
+invariant-loop-rule l = once (registers (rules_left l.rules)) ≡ once (registers (rules_left l.fn.rules))
 
-abbrev pub decreases-loop-k : goal.decreases-loop-k
-decreases-loop-k l = l.k
+abbrev pub decreases-loop-rule : goal.decreases-loop-rule
+decreases-loop-rule l = length (rules_left l.rules)

@@ -1,28 +1,12 @@
--- `names_register`: the rules left name it where all do.
-use Rattle.std.proofs.Common.{◌≡◌, sym, ◌∙◌, arith, eqb, eq-eqb, ne_eqb}
-use Rattle.text.specs.Tests.{or_yes, or_no}
-use Rattle.entry.specs.Entry.{word}
-use Rattle.dwarf.specs.Dwarf.{rules_from, registers, member}
-use Rattle.dwarf.proofs.Loops.{member_turn}
+-- `names_register`: some rule that the iterator gives.
+use Rattle.std.proofs.Common.{rules, tests, refl, ◌∙◌, eqb}
+use Rattle.std.proofs.lemmas.Iterator.Consumers.{YieldsList-from_first}
+use Rattle.std.proofs.lemmas.Iterator.Search.{any_from_yields_List}
+use Rattle.dwarf.specs.Cache.{rules_left}
+use Rattle.dwarf.proofs.Chains.{named_is}
 use Rattle.dwarf.proofs.judge.names_register.Goals as goal
 
-pub returns-then-word-register : goal.returns-then-word-register
-returns-then-word-register c =
-    let a = c.args in
-    let l = c.loop-k in
-    or_yes (eqb (word a.body.now l.a) a.register) _ (eq-eqb (word a.body.now l.a) a.register (sym c.word.ensures ∙ c.if-word-register.true))
-    ∙ sym (member_turn a.body.now a.register l.k l.a (omega arith)) ∙ l.invariant.same
-
-pub loop-k-preserved : goal.loop-k-preserved
-loop-k-preserved c =
-    let a = c.args in
-    let l = c.loop-k in
-    record {
-      at = omega arith;
-      same = or_no (eqb (word a.body.now l.a) a.register) _ (ne_eqb (word a.body.now l.a) a.register (λ e. c.if-word-register.false (c.word.ensures ∙ e)))
-          ∙ sym (member_turn a.body.now a.register l.k l.a (omega arith)) ∙ l.invariant.same;
-    }
-
 pub returns : goal.returns
-unfolding rules_from registers member
-returns c = let e : c.loop-k.k ≡ 0 = omega arith in rw e at c.loop-k.invariant.same
+returns c =
+    any_from_yields_List (λ x. eqb x.register c.args.register) c.any.new.self _ _ c.any.ensures.ran (YieldsList-from_first (λ x. x) rules_left _ refl) (λ x b q k. search (rules, tests))
+    ∙ named_is c.args.register (rules_left c.args.rules)

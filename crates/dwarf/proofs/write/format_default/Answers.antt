@@ -5,6 +5,12 @@ use Rattle.dwarf.specs.Dwarf.{ra_bytes}
 use Rattle.dwarf.specs.Cache.{formatted}
 use Rattle.dwarf.proofs.write.format_default.Goals as goal
 
-pub returns : goal.returns
+pub returns-then-kept-has_cfi_name : goal.returns-then-kept-has_cfi_name
 unfolding ra_bytes formatted rule_text form_text rule_of reg_name form_of
-returns c = rw (c.both-some.ensures, c.both-kept.ensures, c.has_cfi_name.ensures, c.ra_name-name.ensures)
+returns-then-kept-has_cfi_name c =
+    let t = rw c.has_cfi_name.ensures at c.if-kept-has_cfi_name.true in
+    rw (t, c.ra_name-name.ensures)
+
+pub returns : goal.returns
+unfolding ra_bytes formatted
+returns c = let t = rw c.has_cfi_name.ensures at c.if-kept-has_cfi_name.false in rw t

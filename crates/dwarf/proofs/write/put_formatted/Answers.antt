@@ -1,13 +1,13 @@
--- `put_formatted`: a rule that is there is put, another leaves all as it was.
-use Rattle.std.proofs.Common.{refl, arith}
+-- `put_formatted`: the rule, if there is one.
+use Rattle.std.proofs.Common.{arith}
+use Rattle.text.specs.Text.Laws.{put_none}
 use Rattle.dwarf.specs.Cache.{formatted}
-use Rattle.dwarf.proofs.Forms.{put_taken, put_left}
 use Rattle.dwarf.proofs.write.put_formatted.Goals as goal
 
-pub returns-then-f : goal.returns-then-f
+pub returns-in-Some : goal.returns-in-Some
 unfolding formatted
-returns-then-f c = put_taken c.args.f.some _ _ c.if-f.true refl c.put_rule.ensures
+returns-in-Some c = rw c.in-Some.is c.put_rule.ensures
 
-pub returns : goal.returns
+pub returns-in-None : goal.returns-in-None
 unfolding formatted
-returns c = put_left c.args.f.some _ c.if-f.false (omega arith) (omega arith)
+returns-in-None c = rw c.in-None.is (put_none (omega arith) (omega arith))

@@ -1,13 +1,10 @@
--- `put_rules`: what the rules left put, behind what is put, is the whole (`PutLeft`).
-use Rattle.dwarf.specs.Dwarf.{rules_from}
-use Rattle.dwarf.specs.Cache.{lookup}
+-- `put_rules`: what the rules left put, each against those last seen before the row, is left to put.
+use Rattle.text.specs.Text.{Left}
+use Rattle.dwarf.specs.Cache.{rules_left, lookup}
 use Rattle.dwarf.specs.Index.{row_rules}
-use Rattle.dwarf.proofs.Loops.{PutLeft}
 use Rattle.dwarf.proofs.write.put_rules.Given as goal
 
-abbrev pub invariant-loop-k : goal.invariant-loop-k
-invariant-loop-k l =
-    PutLeft l.body l.family l.ra l.rules l.from l.n l.fn.out l.at (row_rules l.family l.ra (lookup l.rules) (rules_from l.body l.n l.from)) l.out l.p l.a l.k
-
-abbrev pub decreases-loop-k : goal.decreases-loop-k
-decreases-loop-k l = l.k
+abbrev pub invariant-loop-rule : goal.invariant-loop-rule
+invariant-loop-rule l =
+    let text = row_rules l.fde.family l.fde.ra (lookup l.cache) in
+    Left l.fn.out l.at (text (rules_left l.rules)) l.out l.p (text (rules_left l.rule-iterator))

@@ -1,14 +1,15 @@
 -- `register_form`: there is a form where there is a name.
-use Rattle.tables.specs.Tables.{cfi_name}
+use Rattle.std.proofs.Common.{refl, sym}
 use Rattle.lines.specs.Lines.{form_text}
 use Rattle.rules.specs.Rules.{form_of, reg_name}
 use Rattle.dwarf.specs.Cache.{formed}
-use Rattle.dwarf.proofs.Forms.{name_form_lem}
+use Rattle.dwarf.proofs.Forms.{none_any}
 use Rattle.dwarf.proofs.write.register_form.Goals as goal
 
-pub returns : goal.returns
+pub returns-then-has_cfi_name : goal.returns-then-has_cfi_name
 unfolding formed form_text form_of reg_name
-returns c = record {
-  some_is = c.has_cfi_name-some.ensures;
-  bytes_are = name_form_lem (cfi_name c.args.family c.args.register) _ c.has_cfi_name-some.ensures;
-}
+returns-then-has_cfi_name c = record { some_is = c.if-has_cfi_name.ensures; bytes_are = refl }
+
+pub returns : goal.returns
+unfolding formed
+returns c = record { some_is = c.if-has_cfi_name.ensures; bytes_are = none_any _ (sym c.if-has_cfi_name.ensures) }

@@ -1,14 +1,7 @@
--- `scan_rules`: the loop of `ScanLeft`: what is left from here gives what all gives.
-use Rattle.std.proofs.Common.{◌≡◌, length}
+-- `scan_rules`: what the rules left do, behind what is done, is the whole (`ScanLeft`).
+use Rattle.dwarf.specs.Cache.{rules_left}
 use Rattle.dwarf.proofs.Loops.{ScanLeft}
 use Rattle.dwarf.proofs.write.scan_rules.Given as goal
 
-abbrev pub invariant-loop-k : goal.invariant-loop-k
-invariant-loop-k l = record {
-  left : ScanLeft l.body l.family l.ra l.already l.fn.rules l.from l.n l.seen l.written l.moved l.a l.k;
-  kinds : length l.seen.kind ≡ 64;
-  values : length l.seen.value ≡ 64;
-}
-
-abbrev pub decreases-loop-k : goal.decreases-loop-k
-decreases-loop-k l = l.k
+abbrev pub invariant-loop-rule : goal.invariant-loop-rule
+invariant-loop-rule l = ScanLeft l.fde.family l.fde.ra l.already l.fn.cache (rules_left l.rules) l.cache l.written l.ra_written (rules_left l.rule-iterator)

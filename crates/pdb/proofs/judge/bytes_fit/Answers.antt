@@ -1,31 +1,26 @@
--- `bytes_fit`: one more word is tested; past the end stands 0, which is no byte.
-use Rattle.std.proofs.Common.{◌≡◌, refl, sym, ap, ◌∙◌, Bool, ◌&&◌, arith}
+-- `bytes_fit`: the fold is the test of all.
+use Rattle.std.proofs.Common.{◌≡◌, refl, rules, tests, ◌∙◌, Bool, true, false, ◌&&◌, ℕ, List, [], ◌∷◌}
+use Rattle.std.proofs.lemmas.Iterator.{YieldsList-from_slice}
+use Rattle.std.proofs.lemmas.Iterator.Consumers.{fold_from_yields_List}
+use Rattle.std.specs.List.{fold}
 use Rattle.text.specs.Tests.{all}
-use Rattle.pdb.specs.Pdb.{words_from, printable}
-use Rattle.pdb.specs.Index.{bytes_more, past_end}
+use Rattle.pdb.specs.Pdb.{printable}
 use Rattle.pdb.proofs.judge.bytes_fit.Goals as goal
 
-pub returns-then-n-eq0 : goal.returns-then-n-eq0
-unfolding words_from
-returns-then-n-eq0 c = let e : c.args.n ≡ 0 = omega arith in rw e
-
-pub returns-then-body-from : goal.returns-then-body-from
-returns-then-body-from c = past_end c.args.body.now c.args.from c.args.n (omega arith) (omega arith)
-
-pub loop-i-init : goal.loop-i-init
-unfolding words_from
-loop-i-init c = record { inside = omega arith; tested = refl }
-
-pub loop-i-preserved : goal.loop-i-preserved
-loop-i-preserved c =
-    let l = c.loop-i in
-    let a = c.args in
-    record {
-      inside = omega arith;
-      tested =
-          c.both-fit.ensures ∙ ap (λ (t : Bool). t && c.is_printable.result) l.invariant.tested
-          ∙ ap (λ (t : Bool). all printable (words_from a.body.now a.from l.i) && t) c.is_printable.ensures ∙ sym (bytes_more a.body.now a.from l.i);
-    }
+fold_all : (t : Bool) (xs : List ℕ) → fold (λ fit b. fit && printable b) t xs ≡ (t && all printable xs)
+fold_all t [] = one t
+  where
+    one : (t : Bool) → t ≡ (t && true)
+    one true = refl
+    one false = refl
+fold_all t (x ∷ xs) = fold_all (t && printable x) xs ∙ go t (printable x) (all printable xs)
+  where
+    go : (a b c : Bool) → ((a && b) && c) ≡ (a && (b && c))
+    go true b c = refl
+    go false b c = refl
 
 pub returns : goal.returns
-returns c = let e : c.loop-i.i ≡ c.args.n = omega arith in rw e at c.loop-i.invariant.tested
+returns c =
+    fold_from_yields_List _ (λ fit b. fit && printable b) true c.fold.result c.fold.ensures.ran (YieldsList-from_slice c.args.program.now cc)
+    (λ a x b q k. search (rules, tests))
+    ∙ fold_all true c.args.program.now

@@ -1,42 +1,29 @@
 -- `ranges_fit`: one range and its start are tested.
-use Rattle.std.proofs.Common.{◌≡◌, sym, ◌∙◌, ◌+◌, ◌-◌, true, false, arith}
-use Rattle.text.specs.Tests.{and_no, and_yes}
-use Rattle.pdb.specs.Pdb.{start_of, range_at, ranges, range_fits, apart, differ, ranges_fit}
-use Rattle.pdb.specs.Index.{fits_step}
+use Rattle.std.proofs.Common.{sym, ◌∙◌}
+use Rattle.std.proofs.lemmas.List.{nil_from_length}
+use Rattle.pdb.specs.Pdb.{differ, ranges_fit}
+use Rattle.pdb.specs.Index.{ranges_of, range_of, turned_fits, alike_fits, rest_fit}
 use Rattle.pdb.proofs.judge.ranges_fit.Goals as goal
 
-pub returns-then-not-range_fits : goal.returns-then-not-range_fits
-returns-then-not-range_fits c =
-    let ws = c.args.body.now in
-    let l = c.loop-k in
-    let f : range_fits (range_at ws l.a) ≡ false = rw c.range_at-range.ensures at (sym c.range_fits.ensures ∙ c.if-not-range_fits.true) in
-    and_no (range_fits (range_at ws l.a)) _ f ∙ sym (fits_step ws l.a l.k (omega arith)) ∙ l.invariant.same
+pub returns-then-range : goal.returns-then-range
+returns-then-range c =
+    let l = rw c.in-Some.ensures.cases.0 at c.loop-first.invariant in
+    let h = rw c.from-range.ensures at c.if-range.true in
+    sym (turned_fits (range_of c.in-Some.first.now) (ranges_of c.in-Some.others.now) h) ∙ l
 
 pub returns-then-not-starts_apart : goal.returns-then-not-starts_apart
 returns-then-not-starts_apart c =
-    let ws = c.args.body.now in
-    let l = c.loop-k in
-    let f : range_fits (range_at ws l.a) ≡ true = rw c.range_at-range.ensures at (sym c.range_fits.ensures ∙ c.if-not-range_fits.false) in
-    let g : apart (start_of (range_at ws l.a)) (ranges ws (l.a + 2) (l.k - 1)) ≡ false = rw c.range_at-range.ensures at
-    (sym c.starts_apart.ensures ∙ c.if-not-starts_apart.true) in
-    and_no (apart (start_of (range_at ws l.a)) (ranges ws (l.a + 2) (l.k - 1))) _ g ∙ and_yes (range_fits (range_at ws l.a)) _ f
-    ∙ sym (fits_step ws l.a l.k (omega arith)) ∙ l.invariant.same
+    let l = rw c.in-Some.ensures.cases.0 at c.loop-first.invariant in
+    let h = rw c.from-range.ensures at (sym c.if-not-starts_apart.ensures) in
+    sym (alike_fits (range_of c.in-Some.first.now) (ranges_of c.in-Some.others.now) h) ∙ l
 
-pub loop-k-preserved : goal.loop-k-preserved
-loop-k-preserved c =
-    let ws = c.args.body.now in
-    let l = c.loop-k in
-    let f : range_fits (range_at ws l.a) ≡ true = rw c.range_at-range.ensures at (sym c.range_fits.ensures ∙ c.if-not-range_fits.false) in
-    let g : apart (start_of (range_at ws l.a)) (ranges ws (l.a + 2) (l.k - 1)) ≡ true = rw c.range_at-range.ensures at
-    (sym c.starts_apart.ensures ∙ c.if-not-starts_apart.false) in
-    record {
-      inside = omega (arith, l.invariant.inside);
-      ends = omega (arith, l.invariant.ends);
-      same =
-          and_yes (apart (start_of (range_at ws l.a)) (ranges ws (l.a + 2) (l.k - 1))) _ g ∙ and_yes (range_fits (range_at ws l.a)) _ f
-          ∙ sym (fits_step ws l.a l.k (omega arith)) ∙ l.invariant.same;
-    }
+pub loop-first-preserved : goal.loop-first-preserved
+loop-first-preserved c =
+    let l = rw c.in-Some.ensures.cases.0 at c.loop-first.invariant in
+    let h = rw c.from-range.ensures at c.if-range.false in
+    let k = rw c.from-range.ensures at (sym c.if-not-starts_apart.ensures) in
+    sym (rest_fit (range_of c.in-Some.first.now) (ranges_of c.in-Some.others.now) h k) ∙ l
 
 pub returns : goal.returns
-unfolding ranges ranges_fit differ
-returns c = let e : c.loop-k.k ≡ 0 = omega arith in rw e at c.loop-k.invariant.same
+unfolding ranges_fit differ
+returns c = rw (nil_from_length c.loop-first.ranges.now c.in_default.ensures.cases) at c.loop-first.invariant

@@ -1,14 +1,11 @@
 -- `ranges_fit`: the ranges that are left fit just where all do.
-use Rattle.std.proofs.Common.{◌≡◌, ◌+◌, ◌*◌, ◌≤◌}
-use Rattle.pdb.specs.Pdb.{ranges, ranges_fit}
+use Rattle.std.proofs.Common.{◌≡◌, length}
+use Rattle.pdb.specs.Pdb.{ranges_fit}
+use Rattle.pdb.specs.Index.{ranges_of}
 use Rattle.pdb.proofs.judge.ranges_fit.Given as goal
 
-abbrev pub invariant-loop-k : goal.invariant-loop-k
-invariant-loop-k l = record {
-  inside : l.k ≤ l.n;
-  ends : l.a + 2 * l.k ≡ l.from + 2 * l.n;
-  same : ranges_fit (ranges l.body l.a l.k) ≡ ranges_fit (ranges l.body l.from l.n);
-}
+abbrev pub invariant-loop-first : goal.invariant-loop-first
+invariant-loop-first l = ranges_fit (ranges_of l.ranges) ≡ ranges_fit (ranges_of l.fn.ranges)
 
-abbrev pub decreases-loop-k : goal.decreases-loop-k
-decreases-loop-k l = l.k
+abbrev pub decreases-loop-first : goal.decreases-loop-first
+decreases-loop-first l = length l.ranges

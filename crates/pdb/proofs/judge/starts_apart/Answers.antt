@@ -1,31 +1,19 @@
--- `starts_apart`: one range's start is tested.
-use Rattle.std.proofs.Common.{◌≡◌, sym, ap, ◌∙◌, not, eqb, eq-eqb, ne_eqb, arith}
-use Rattle.text.specs.Tests.{and_no, and_yes}
-use Rattle.entry.specs.Entry.{word}
-use Rattle.pdb.specs.Pdb.{ranges, apart}
-use Rattle.pdb.specs.Index.{apart_step}
+-- `starts_apart`: each range's start is tested.
+use Rattle.std.proofs.Common.{◌≡◌, refl, rules, tests, ap, ◌∙◌, Bool, not, ◌&&◌, ℕ, List, [], ◌∷◌, eqb}
+use Rattle.std.proofs.lemmas.Iterator.{YieldsList-from_slice}
+use Rattle.std.proofs.lemmas.Iterator.Search.{all_from_yields_List}
+use Rattle.std.specs.List.{list_all}
+use Rattle.pdb.specs.Pdb.{apart, start_of}
+use Rattle.pdb.specs.Index.{ranges_of, range_of}
 use Rattle.pdb.proofs.judge.starts_apart.Goals as goal
 
-pub returns-then-word-start : goal.returns-then-word-start
-returns-then-word-start c =
-    let ws = c.args.body.now in
-    let l = c.loop-k in
-    let s = c.args.start.0 in
-    and_no (not (eqb (word ws l.a) s)) _ (ap not (eq-eqb (word ws l.a) s (sym c.word.ensures ∙ c.if-word-start.true)))
-    ∙ sym (apart_step ws s l.a l.k (omega arith)) ∙ l.invariant.same
-
-pub loop-k-preserved : goal.loop-k-preserved
-loop-k-preserved c =
-    let ws = c.args.body.now in
-    let l = c.loop-k in
-    let s = c.args.start.0 in
-    record {
-      ends = omega (arith, l.invariant.ends);
-      same =
-          and_yes (not (eqb (word ws l.a) s)) _ (ap not (ne_eqb (word ws l.a) s (λ e. c.if-word-start.false (c.word.ensures ∙ e))))
-          ∙ sym (apart_step ws s l.a l.k (omega arith)) ∙ l.invariant.same;
-    }
+all_apart : (s : ℕ) (ps : List (List ℕ)) → list_all (λ w. not (eqb (start_of (range_of w)) s)) ps ≡ apart s (ranges_of ps)
+unfolding apart
+all_apart s [] = refl
+all_apart s (p ∷ ps) = ap (λ (t : Bool). not (eqb (start_of (range_of p)) s) && t) (all_apart s ps)
 
 pub returns : goal.returns
-unfolding apart ranges
-returns c = let e : c.loop-k.k ≡ 0 = omega arith in rw e at c.loop-k.invariant.same
+returns c =
+    all_from_yields_List (λ w. not (eqb (start_of (range_of w)) c.args.start.0)) _ _ _ c.all.ensures.ran (YieldsList-from_slice c.args.ranges.now cc)
+    (λ x b q k. search (rules, tests))
+    ∙ all_apart c.args.start.0 c.args.ranges.now

@@ -1,0 +1,55 @@
+-- Names fit into the fixed bytes: those of the tables by a computed test over each, registers of ARM64 unwind codes below 1000 by their digits.
+use Rattle.std.proofs.Common.{leb→le, true, false, cond, ◌≡◌, refl, ℕ, zero, suc, ◌≤◌, ◌<◌, Bool, not, List, [], ◌∷◌, T, eqb, leb, length, take, get_or, arith, length-append}
+use Rattle.std.proofs.lemmas.List.{take_all}
+use Rattle.std.proofs.lemmas.Bool.{ne_eqb}
+use Rattle.text.specs.Text.{ascii}
+use Rattle.text.specs.Tests.{all, and_l, and_r, either, any}
+use Rattle.digits.specs.Digits.{decimal}
+use Rattle.digits.specs.Digits.Laws.{digits_length}
+use Rattle.tables.specs.Tables.{i386, x86_64, arm, arm64, ppc, mips, pe_x64, table, cfi_name, pe_name}
+use Rattle.names.specs.Names.{letter_of, arm64_name}
+
+abbrev short : List ℕ → Bool
+short n = leb (length n) 8
+
+entry_short : (ns : List (List ℕ)) (r : ℕ) → T (all short ns) → T (short (get_or ns r []))
+entry_short [] r h = tt
+entry_short (n ∷ ns) zero h = and_l (short n) _ h
+entry_short (n ∷ ns) (suc r) h = entry_short ns r (and_r (short n) _ h)
+
+table_short : (f : ℕ) → T (all short (table f))
+unfolding table i386 x86_64 arm arm64 ppc mips
+table_short f =
+    let by = either (all short) in
+    by (eqb f 1) i386 _ tt (by (eqb f 2) x86_64 _ tt (by (eqb f 3) arm _ tt (by (eqb f 4) arm64 _ tt (by (eqb f 5) ppc _ tt
+    (by (eqb f 6) ppc _ tt (by (eqb f 7) mips _ tt (by (eqb f 8) mips _ tt (by (eqb f 9) arm64 [] tt tt))))))))
+
+whole : (n : List ℕ) → T (short n) → take 8 n ≡ n
+whole n h = take_all 8 n (leb→le (length n) 8 h)
+
+pub cfi_whole : (f r : ℕ) → take 8 (cfi_name f r) ≡ cfi_name f r
+unfolding cfi_name
+cfi_whole f r = whole (get_or (table f) r []) (entry_short (table f) r (table_short f))
+
+pub pe_whole : (r : ℕ) → take 8 (pe_name r) ≡ pe_name r
+unfolding pe_name pe_x64
+pe_whole r = whole (get_or pe_x64 r []) (entry_short pe_x64 r tt)
+
+letter_one : (l : ℕ) → length (letter_of l) ≡ 1
+unfolding letter_of
+letter_one l = go (eqb l 0) (eqb l 1)
+  where
+    go : (s t : Bool) → length (cond s (ascii "x") (cond t (ascii "d") (ascii "q"))) ≡ 1
+    go true t = refl
+    go false true = refl
+    go false false = refl
+
+pub arm64_short : (l r : ℕ) → r < 1000 → length (arm64_name l r) ≤ 8
+unfolding arm64_name decimal
+arm64_short l r h = omega (arith, length-append (letter_of l) (decimal r), letter_one l, digits_length 10 2 r (omega arith) h)
+
+-- an empty name is none
+pub some_any : (n : List ℕ) → not (eqb (length n) 0) ≡ any n
+unfolding any
+some_any [] = refl
+some_any (b ∷ n) = rw (ne_eqb (suc (length n)) 0 (λ e. omega arith))
