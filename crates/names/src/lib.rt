@@ -9,7 +9,7 @@ ghost use Rattle.names.specs.Names.{letter_of, arm64_name, name_text};
 
 use digits::put_decimal;
 use tables::{cfi_name, pe_name};
-use text::{put_byte, put_bytes};
+use text::{put_byte, put_bytes, put_front};
 
 // A name in fixed bytes with its length, as document 01 wants it; length 0: no name.
 #[derive(Clone, Copy)]
@@ -26,14 +26,12 @@ pub fn has_cfi_name(family: u32, register: u32) -> bool
 }
 
 // The first eight bytes of a text.
-#[tactic(auto, unfolding(crate::specs::Names::name_text))]
 pub fn name_of(text: &[u8]) -> Name
     ensures { name_text result ≡ take 8 text.now }
 {
-    let n = text.len().min(8);
     let mut bytes = [0; 8];
-    bytes[..n].copy_from_slice(&text[..n]);
-    Name { bytes, len: n }
+    let len = put_front(&mut bytes, 0, text, 8);
+    Name { bytes, len }
 }
 
 #[tactic(auto, using(crate::proofs::Short::cfi_whole))]

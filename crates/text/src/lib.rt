@@ -22,7 +22,10 @@ pub fn put_bytes(out: &mut [u8], at: usize, src: &[u8]) -> usize
 {
     let n = src.len();
     if at <= out.len() && n <= out.len() - at {
-        out[at..at + n].copy_from_slice(src);
+        // Not copy_from_slice, which would make the archive need memmove.
+        for i in 0..n {
+            out[at + i] = src[i];
+        }
         return at + n;
     }
     put_bytes_fitting(out, at, src)

@@ -1,13 +1,14 @@
--- `put_bytes`: where all of src fits, it is copied to its place.
-use Rattle.std.proofs.Common.{arith, rules}
-use Rattle.std.proofs.lemmas.List.Edits.{sets-eq}
-use Rattle.std.proofs.lemmas.Slice.{overwrites}
+-- `put_bytes`: one more byte is stored.
+use Rattle.std.proofs.Common.{arith, add-one, refl, ◌<◌, length}
+use lib.Seq.{take-suc}
+use Rattle.text.specs.Text.Laws.{◌⨾◌}
 use Rattle.text.proofs.put_bytes.Goals as goal
 
-pub returns-then-n-out : goal.returns-then-n-out
-returns-then-n-out c =
+pub loop-i-preserved : goal.loop-i-preserved
+loop-i-preserved c =
+    let s = c.args.src.now in
+    let h : c.loop-i.i < length s = omega arith in
     record {
-      bytes = rw (sets-eq c.args.src.now c.args.out.now c.args.at (omega arith)) (search (rules, overwrites));
-      next = omega arith;
-      short = omega arith;
+      inside = omega arith;
+      put = rw (add-one, take-suc s c.loop-i.i 0) (c.loop-i.invariant.put ⨾ record { bytes = refl; next = omega arith; short = omega arith });
     }
