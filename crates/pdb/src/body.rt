@@ -11,11 +11,11 @@
 ghost use Rattle.std.specs.Prelude.{◌≡◌, T, eqb, unwrap_or};
 ghost use Rattle.entry.specs.Entry.{word as word_of};
 ghost use Rattle.pdb.specs.Pdb.{prologs as prologs_of, codes as codes_of, program as program_of, has_program, pdb_layout, leaves, max_stack};
-ghost use Rattle.pdb.specs.Index.{ranges_of, ranges_in};
+ghost use Rattle.pdb.specs.Index.{ranges_of, ranges_in, info_of};
 
-use crate::Part;
+use crate::{Line, Part};
 use entry::{Last, word};
-use lines::Rva;
+use lines::{Rva, StackInfo};
 
 // Where the words stand.
 pub(crate) const TYPE_AT: usize = 0;
@@ -26,11 +26,11 @@ pub(crate) const CODE_SIZE_AT: usize = 2;
 
 pub(crate) const PROLOG_SIZE_AT: usize = 3;
 
-pub(crate) const PARAMS_AT: usize = 4;
+const PARAMS_AT: usize = 4;
 
 pub(crate) const SAVED_AT: usize = 5;
 
-pub(crate) const LOCALS_AT: usize = 6;
+const LOCALS_AT: usize = 6;
 
 pub(crate) const MAX_STACK_MARK_AT: usize = 7;
 
@@ -77,9 +77,48 @@ impl<'a> Body<'a> {
             Part::Code => self.codes,
         }
     }
+
+    // The max stack, where there is one.
+    #[tactic(auto, unfolding(crate::specs::Pdb::max_stack))]
+    pub(crate) fn max_stack(self) -> Option<u32>
+        ensures { unwrap_or result 0 ≡ max_stack self.entry.words.now }
+    {
+        marked(self.words, MAX_STACK_MARK_AT).then(|| word(self.words, MAX_STACK_AT))
+    }
+
+    // The four words that tell one entry from the next.
+    #[tactic(auto, unfolding(crate::specs::Pdb::leaves))]
+    pub(crate) fn own(self) -> Last
+        ensures { result ≡ leaves self.entry.words.now }
+    {
+        Last {
+            ty: word(self.words, TYPE_AT),
+            start: Rva(word(self.words, CODE_START_AT)),
+            code_size: word(self.words, CODE_SIZE_AT),
+            prolog_size: word(self.words, PROLOG_SIZE_AT),
+        }
+    }
+
+    // The numbers of a line.
+    #[tactic(auto, unfolding(crate::specs::Index::info_of))]
+    pub(crate) fn stack_info(self, line: Line) -> StackInfo
+        ensures { result ≡ info_of self.entry.words.now line.range.start.0 line.range.end.0 line.prolog_size }
+    {
+        StackInfo {
+            ty: word(self.words, TYPE_AT),
+            start: line.range.start,
+            code_size: line.range.size(),
+            prolog_size: line.prolog_size,
+            epilog_size: 0,
+            params_size: word(self.words, PARAMS_AT),
+            saved_regs_size: word(self.words, SAVED_AT),
+            locals_size: word(self.words, LOCALS_AT),
+            max_stack_size: self.max_stack().unwrap_or(0),
+        }
+    }
 }
 
-// Whether a mark is there.
+// Whether a mark is there. Here and below of the words, not of a Body: refusal 4 asks before there is one.
 pub(crate) fn marked(words: &[u32], at: usize) -> bool
     ensures { result ≡ eqb (word_of words.now at) 1 }
 {
@@ -92,25 +131,4 @@ pub(crate) fn has_program(words: &[u32]) -> bool
     ensures { result ≡ has_program words.now }
 {
     marked(words, PROGRAM_MARK_AT) & marked(words, TABLE_MARK_AT)
-}
-
-// The max stack, where there is one.
-#[tactic(auto, unfolding(crate::specs::Pdb::max_stack))]
-pub(crate) fn max_stack(words: &[u32]) -> Option<u32>
-    ensures { unwrap_or result 0 ≡ max_stack words.now }
-{
-    marked(words, MAX_STACK_MARK_AT).then(|| word(words, MAX_STACK_AT))
-}
-
-// The four words that tell one entry from the next.
-#[tactic(auto, unfolding(crate::specs::Pdb::leaves))]
-pub(crate) fn own(words: &[u32]) -> Last
-    ensures { result ≡ leaves words.now }
-{
-    Last {
-        ty: word(words, TYPE_AT),
-        start: Rva(word(words, CODE_START_AT)),
-        code_size: word(words, CODE_SIZE_AT),
-        prolog_size: word(words, PROLOG_SIZE_AT),
-    }
 }

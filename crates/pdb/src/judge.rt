@@ -8,7 +8,7 @@ use crate::Range;
 use crate::body::{
     BASE_POINTER_AT, Body, CODE_SIZE_AT, CODE_START_AT, CODES_AT, LENGTH_AT, MAX_STACK_MARK_AT,
     PROGRAM_MARK_AT, PROLOG_SIZE_AT, PROLOGS_AT, RANGES_AT, SAVED_AT, SPACE, TABLE_MARK_AT,
-    TYPE_AT, has_program, own,
+    TYPE_AT, has_program,
 };
 use entry::{Fate, Last, word};
 use lines::Rva;
@@ -84,6 +84,7 @@ fn starts_apart(start: Rva, ranges: &[[u32; 2]]) -> bool
 fn ranges_fit(mut ranges: &[[u32; 2]]) -> bool
     ensures { result ≡ ranges_fit (ranges_of ranges.now) }
 {
+    // Not a `for` or `all`: each turn needs the ranges that are behind, too.
     while let Some((first, others)) = ranges.split_first() {
         let range = Range::from(*first);
         if range.end.0 < range.start.0 {
@@ -125,65 +126,67 @@ fn parts_fit(prologs: &[[u32; 2]], codes: &[[u32; 2]], program: &[u32]) -> bool
     ranges_fit(prologs) && ranges_fit(codes) && bytes_fit(program)
 }
 
-// The body where refusal 4 does not apply: ranges of words, and exactly the words that the counts demand.
-pub(crate) fn layout(words: &[u32]) -> Option<Body<'_>>
-    ensures { MatchOption result (pdb_layout words.now ≡ false) (λ body. body.words.now ≡ words.now) }
-{
-    if !head_fits(words) {
-        return None;
+impl<'a> Body<'a> {
+    // The body of these words; none where refusal 4 applies: ranges of words, and exactly the words that the counts demand.
+    pub(crate) fn read(words: &'a [u32]) -> Option<Body<'a>>
+        ensures { MatchOption result (pdb_layout words.now ≡ false) (λ body. body.words.now ≡ words.now) }
+    {
+        if !head_fits(words) {
+            return None;
+        }
+        let codes_at = RANGES_AT + 2 * word(words, PROLOGS_AT) as usize;
+        let program_at = codes_at + 2 * word(words, CODES_AT) as usize;
+        let end = program_at + word(words, LENGTH_AT) as usize;
+        if end != words.len() {
+            return None;
+        }
+        let (prologs, _) = words[RANGES_AT..codes_at].as_chunks();
+        let (codes, _) = words[codes_at..program_at].as_chunks();
+        let program = &words[program_at..];
+        if !parts_fit(prologs, codes, program) {
+            return None;
+        }
+        Some(Body {
+            words,
+            prologs,
+            codes,
+            program,
+        })
     }
-    let codes_at = RANGES_AT + 2 * word(words, PROLOGS_AT) as usize;
-    let program_at = codes_at + 2 * word(words, CODES_AT) as usize;
-    let end = program_at + word(words, LENGTH_AT) as usize;
-    if end != words.len() {
-        return None;
-    }
-    let (prologs, _) = words[RANGES_AT..codes_at].as_chunks();
-    let (codes, _) = words[codes_at..program_at].as_chunks();
-    let program = &words[program_at..];
-    if !parts_fit(prologs, codes, program) {
-        return None;
-    }
-    Some(Body {
-        words,
-        prologs,
-        codes,
-        program,
-    })
-}
 
-// ---- skipping and refusal 6
+    // ---- skipping and refusal 6
 
-// Code sizes close to the largest number are known to stand for something else, at the end of a function's code.
-// And the frame table often has series of entries that are alike: only the first of them is written.
-#[tactic(auto, unfolding(crate::specs::Pdb::pdb_skipped, crate::specs::Pdb::repeats))]
-fn skipped(words: &[u32], last: Option<Last>) -> bool
-    ensures { result ≡ pdb_skipped last words.now }
-{
-    MOST_CODE_SIZE < word(words, CODE_SIZE_AT) || last == Some(own(words))
-}
-
-// Refusal 6 does not apply: the prolog and the code end within 32 bits.
-#[tactic(auto, unfolding(crate::specs::Pdb::in_reach))]
-fn reach(words: &[u32]) -> bool
-    ensures { result ≡ in_reach words.now }
-{
-    let start = word(words, CODE_START_AT) as u64;
-    let code_size = word(words, CODE_SIZE_AT) as u64;
-    let prolog_size = word(words, PROLOG_SIZE_AT) as u64;
-    start + prolog_size <= LAST_ADDRESS && start + code_size <= LAST_ADDRESS
-}
-
-// What becomes of an entry whose layout fits: refused by 6, skipped, or written.
-#[tactic(auto, unfolding(crate::specs::Pdb::pdb_judged))]
-pub(crate) fn judge(body: Body, last: Option<Last>) -> Result<Fate, Refusal>
-    ensures { result ≡ pdb_judged last body.entry.words.now }
-{
-    if skipped(body.words, last) {
-        return Ok(Fate::Skip);
+    // Code sizes close to the largest number are known to stand for something else, at the end of a function's code.
+    // And the frame table often has series of entries that are alike: only the first of them is written.
+    #[tactic(auto, unfolding(crate::specs::Pdb::pdb_skipped, crate::specs::Pdb::repeats))]
+    fn skipped(self, last: Option<Last>) -> bool
+        ensures { result ≡ pdb_skipped last self.entry.words.now }
+    {
+        MOST_CODE_SIZE < word(self.words, CODE_SIZE_AT) || last == Some(self.own())
     }
-    if !reach(body.words) {
-        return Err(Refusal::Reach);
+
+    // Refusal 6 does not apply: the prolog and the code end within 32 bits.
+    #[tactic(auto, unfolding(crate::specs::Pdb::in_reach))]
+    fn reach(self) -> bool
+        ensures { result ≡ in_reach self.entry.words.now }
+    {
+        let start = word(self.words, CODE_START_AT) as u64;
+        let code_size = word(self.words, CODE_SIZE_AT) as u64;
+        let prolog_size = word(self.words, PROLOG_SIZE_AT) as u64;
+        start + prolog_size <= LAST_ADDRESS && start + code_size <= LAST_ADDRESS
     }
-    Ok(Fate::Write)
+
+    // What becomes of an entry whose layout fits: refused by 6, skipped, or written.
+    #[tactic(auto, unfolding(crate::specs::Pdb::pdb_judged))]
+    pub(crate) fn judge(self, last: Option<Last>) -> Result<Fate, Refusal>
+        ensures { result ≡ pdb_judged last self.entry.words.now }
+    {
+        if self.skipped(last) {
+            return Ok(Fate::Skip);
+        }
+        if !self.reach() {
+            return Err(Refusal::Reach);
+        }
+        Ok(Fate::Write)
+    }
 }

@@ -1,9 +1,9 @@
--- `layout`: test by test, over the parts of the body.
+-- `Body::read`: test by test, over the parts of the body.
 use Rattle.std.proofs.Common.{◌≡◌, sym, ◌∙◌, ℕ, ◌+◌, ◌-◌, ◌*◌, length, true, false, T, arith}
 use Rattle.pdb.specs.Pdb.{prologs, codes, program, rest_fits, pdb_layout}
 use Rattle.pdb.specs.Index.{ranges_of, part, prologs_part, codes_part, program_part, head_broken, layout_by, rest_broken, rest_by}
-use Rattle.pdb.proofs.judge.layout.Goals as goal
-use Rattle.pdb.proofs.judge.layout.Goals.{After-parts_fit}
+use Rattle.pdb.proofs.body.Body.read.Goals as goal
+use Rattle.pdb.proofs.body.Body.read.Goals.{After-parts_fit}
 
 -- where the code ranges start, and the program
 abbrev codes_at : After-parts_fit → ℕ
