@@ -81,6 +81,7 @@ fn starts_apart(start: Rva, ranges: &[[u32; 2]]) -> bool
 }
 
 // No range ends before it starts, and their starts differ.
+#[tactic(auto, using(crate::specs::Index::turned_fits, crate::specs::Index::alike_fits, crate::specs::Index::rest_fit))]
 fn ranges_fit(mut ranges: &[[u32; 2]]) -> bool
     ensures { result ≡ ranges_fit (ranges_of ranges.now) }
 {
@@ -128,6 +129,7 @@ fn parts_fit(prologs: &[[u32; 2]], codes: &[[u32; 2]], program: &[u32]) -> bool
 
 impl<'a> Body<'a> {
     // The body of these words; none where refusal 4 applies: ranges of words, and exactly the words that the counts demand.
+    #[tactic(auto, using(crate::specs::Index::head_broken, crate::specs::Index::layout_by, crate::specs::Index::rest_broken, crate::specs::Index::rest_by, crate::specs::Index::prologs_part, crate::specs::Index::codes_part, crate::specs::Index::program_part))]
     pub(crate) fn read(words: &'a [u32]) -> Option<Body<'a>>
         ensures { MatchOption result (pdb_layout words.now ≡ false) (λ body. body.words.now ≡ words.now) }
     {
