@@ -1,31 +1,27 @@
 // The words of a book that was read as bytes.
 #![tactic(auto)]
 
-ghost use Rattle.std.specs.Prelude.{◌≡◌, ◌++◌, ◌*◌, ◌≤◌, ◌<◌, length, take, drop};
+ghost use Rattle.std.specs.Prelude.{◌≡◌, ◌++◌, ◌*◌, ◌≤◌, ◌<◌, length, take, drop, MatchOption};
 ghost use Rattle.std.specs.Io.KnownBytes.{Consumes};
-ghost use Rattle.input.specs.Words.{word_of, words_of, word_count, Read, Given};
+ghost use Rattle.input.specs.Words.{words_of, word_count, IsNoBook, AreWords, Read, Given};
 
 use std::io::Read;
 
 const MOST_BYTES: usize = 65536;
 
-// The word at four bytes.
-fn word(a: u8, b: u8, c: u8, d: u8) -> u32
-    ensures { result ≡ word_of a b c d }
+// The words of a book, four bytes each; none where the bytes are no book.
+#[tactic(auto, using(crate::specs::Words::Laws::too_long, crate::specs::Words::Laws::broken, crate::specs::Words::Laws::whole))]
+fn book_words(bytes: &[u8]) -> Option<&[[u8; 4]]>
+    ensures { MatchOption result (IsNoBook bytes.now) (λ words. AreWords bytes.now words.now) }
 {
-    u32::from_le_bytes([a, b, c, d])
-}
-
-fn word_count(bytes: usize, room: usize) -> usize
-    ensures { (result ≡ word_count bytes room) × (result ≤ room) × (4 * result ≤ bytes) }
-{
-    if MOST_BYTES < bytes {
-        return 0;
+    if MOST_BYTES < bytes.len() {
+        return None;
     }
-    if bytes % 4 != 0 {
-        return 0;
+    let (words, rest) = bytes.as_chunks();
+    if !rest.is_empty() {
+        return None;
     }
-    room.min(bytes / 4)
+    Some(words)
 }
 
 // The words of the bytes, as many as out takes, and their number; none, which is refused 3, where the bytes are no book.
@@ -35,19 +31,18 @@ pub fn words(bytes: &[u8], out: &mut [u32]) -> usize
     ensures out_after { out.new ≡ words_of bytes.now result ++ drop result out.old }
     ensures read { Read out.old out.new result }
 {
-    let n = word_count(bytes.len(), out.len());
-    for i in 0..n {
-        out[i] = word(
-            bytes[4 * i],
-            bytes[4 * i + 1],
-            bytes[4 * i + 2],
-            bytes[4 * i + 3],
-        );
+    let Some(words) = book_words(bytes) else {
+        return 0;
+    };
+    let n = words.len().min(out.len());
+    for (i, word) in words[..n].iter().enumerate() {
+        out[i] = u32::from_le_bytes(*word);
     }
     n
 }
 
 // Reads until the buffer is full, the input ends or a read fails: how many bytes were put at its start, which the reader then no longer has.
+// Not `read_exact`, which fails where the input ends before, nor `read_to_end`, which needs a heap; of a read that fails neither says what it took.
 pub fn read_full<R: Read>(reader: &mut R, bytes: &mut [u8]) -> usize
     ensures prefix_len { result ≤ length bytes.new }
     ensures given { Consumes (R.remaining reader.old) (R.remaining reader.new) (take result bytes.new) }
