@@ -7,30 +7,16 @@ ghost use Rattle.digits.specs.Digits.{digit, digits, hex, decimal, signed};
 
 use text::put_byte;
 
-// The byte of a digit; the compiler makes a table of it.
+// The byte of a digit: '0' to '9', then 'a' to 'f'.
 #[tactic(auto, unfolding(crate::specs::Digits::digit))]
 pub fn digit_of(n: u64) -> u8
     requires { n < 16 }
     ensures { result ≡ digit n }
 {
-    match n {
-        0 => b'0',
-        1 => b'1',
-        2 => b'2',
-        3 => b'3',
-        4 => b'4',
-        5 => b'5',
-        6 => b'6',
-        7 => b'7',
-        8 => b'8',
-        9 => b'9',
-        10 => b'a',
-        11 => b'b',
-        12 => b'c',
-        13 => b'd',
-        14 => b'e',
-        _ => b'f',
+    if n < 10 {
+        return b'0' + n as u8;
     }
+    b'a' - 10 + n as u8
 }
 
 // `n` digits in base BASE: where all of them fit they are stored from the last one back.

@@ -21,7 +21,7 @@ pub enum Reg {
     Pe(u32),
     // DWARF rows: CPU family and register number, as the body has them; a family that is none has no names
     Cfi(u32, u32),
-    // ARM64 unwind codes: letter and number
+    // ARM64 unwind codes: letter and number, as the body has them; every word is a letter, so that a narrower type would ask more of callers
     Arm64(u32, u32),
 }
 
@@ -126,5 +126,5 @@ pub fn difference(a: u64, b: u64) -> i64
     requires { (a < 2 ^ 63) × (b < 2 ^ 63) }
     ensures { result ≡ sub_ℕ a b }
 {
-    (a as i64) - (b as i64)
+    a.cast_signed() - b.cast_signed()
 }
