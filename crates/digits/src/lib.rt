@@ -27,6 +27,7 @@ fn put_digits<const BASE: u64>(out: &mut [u8], at: usize, x: u64, n: usize) -> u
 {
     if at <= out.len() && n <= out.len() - at {
         let mut v = x;
+        // By index: of an iter_mut turned round no proof knows what it stored.
         for k in (0..n).rev() {
             out[at + k] = digit_of(v % BASE);
             v /= BASE;

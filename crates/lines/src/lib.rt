@@ -39,11 +39,12 @@ pub fn put_init(out: &mut [u8], at: usize, address: u64, size: u64) -> usize
 pub fn put_later(out: &mut [u8], at: usize, six: bool, address: u64) -> usize
     ensures { Put out.old at (later_text six address) out.new result }
 {
-    if six {
-        let p = put_bytes(out, at, b"STACK CFI      ");
-        return put_hex(out, p, address);
-    }
-    let p = put_bytes(out, at, b"STACK CFI ");
+    let start: &[u8] = if six {
+        b"STACK CFI      "
+    } else {
+        b"STACK CFI "
+    };
+    let p = put_bytes(out, at, start);
     put_hex(out, p, address)
 }
 

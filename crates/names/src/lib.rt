@@ -1,4 +1,5 @@
-// Names of registers as records write them: in fixed bytes with a length, and put into a slice.
+// Names of registers as records write them: in fixed bytes with a length, and put into a slice. A family or a letter and a register stay two numbers,
+// as the words of a body have them; the calls for each of the two numberings, DWARF's and PE's, stay two, as their tables are.
 #![tactic(auto)]
 
 ghost use Rattle.std.specs.Prelude.{◌≡◌, [], ◌∷◌, ◌<◌, take};

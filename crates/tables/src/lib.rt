@@ -1,4 +1,4 @@
-// Register names by register number, one table for each CPU family, as Breakpad's records write them. An empty name is none.
+// Register names by register number, one table for each CPU family, as Breakpad's records write them. An empty name is none, as document 01 has it.
 // The comment behind a row is the number of its first register.
 #![tactic(auto)]
 
