@@ -1,17 +1,16 @@
 -- Chains over the rules of a row and the rows of a body, as the definitions have them.
-use mathlib.Core.Path.{◌≡◌, refl, ap, ap₂}
-use Prim.Native.Nat.{ℕ, zero, suc, ◌+◌}
+use mathlib.Core.Path.{◌≡◌, refl, ap}
+use Prim.Native.Nat.{ℕ, ◌+◌}
 use mathlib.Core.Bool.{Bool, true, false, not, cond, ◌&&◌, ◌||◌}
 use mathlib.Core.List.{List, [], ◌∷◌}
 use lib.Dec.{eqb, leb, ltb}
 use borrow.Author.Tests.{eqb-true}
-use Rattle.std.specs.List.{list_all, list_any}
+use Rattle.std.specs.List.{list_any}
 use Rattle.entry.specs.Entry.{word}
-use Rattle.dwarf.specs.declared.RegisterRule.{RegisterRule}
-use Rattle.dwarf.specs.Dwarf.{wide, used_value, rule_at, rules_from, Row, registers, member, rule_fits, rules_fit, any_below}
+use Rattle.dwarf.specs.Dwarf.{wide, used_value, rule_at, Row, rule_fits, any_below}
 use Rattle.dwarf.specs.Cache.{fits}
 
-rule_fits_is : (ws : List ℕ) (a : ℕ) → rule_fits ws a ≡ fits (rule_at ws a)
+pub rule_fits_is : (ws : List ℕ) (a : ℕ) → rule_fits ws a ≡ fits (rule_at ws a)
 unfolding rule_fits rule_at used_value
 rule_fits_is ws a = ap (λ (t : Bool). ltb (word ws a) 65536 && t) (go (eqb (word ws (a + 1)) 3) refl)
   where
@@ -20,16 +19,6 @@ rule_fits_is ws a = ap (λ (t : Bool). ltb (word ws a) 65536 && t) (go (eqb (wor
         ≡ cond t (ltb (cond (leb 1 (word ws (a + 1)) && leb (word ws (a + 1)) 3) (wide ws (a + 2)) 0) 65536) (leb (word ws (a + 1)) 4)
     go true e = rw (eqb-true (word ws (a + 1)) 3 e)
     go false e = refl
-
-pub rules_fit_is : (ws : List ℕ) (n a : ℕ) → rules_fit ws n a ≡ list_all fits (rules_from ws n a)
-unfolding rules_fit rules_from
-rules_fit_is ws zero a = refl
-rules_fit_is ws (suc n) a = ap₂ (λ (t u : Bool). t && u) (rule_fits_is ws a) (rules_fit_is ws n (a + 4))
-
-pub named_is : (r : ℕ) (xs : List RegisterRule) → list_any (λ x. eqb x.register r) xs ≡ member r (registers xs)
-unfolding member registers
-named_is r [] = refl
-named_is r (x ∷ xs) = ap (λ (t : Bool). eqb x.register r || t) (named_is r xs)
 
 pub below_is : (first load : ℕ) (ws : List Row) → list_any (λ w. not (eqb w.start first) && ltb w.start load) ws ≡ any_below first load ws
 unfolding any_below

@@ -7,3 +7,4 @@ pub mod Loops
 pub mod Rows
 pub mod Meeting
 pub mod Chains
+pub mod Slices

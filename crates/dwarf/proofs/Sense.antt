@@ -1,5 +1,5 @@
 -- The text of a DWARF entry as its rows are run is the text of its sense, and the lines are well formed.
-use Rattle.std.specs.Prelude.{◌≡◌, refl, ℕ, zero, suc, ◌-◌, Bool, true, false, not, cond, ◌&&◌, ◌||◌, List, [], ◌∷◌, ◌++◌, ℤ, T, eqb, leb, Option}
+use Rattle.std.specs.Prelude.{◌≡◌, refl, ℕ, ◌-◌, Bool, true, false, not, cond, ◌&&◌, List, [], ◌∷◌, ◌++◌, ℤ, T, eqb, leb, Option}
 use Rattle.std.proofs.Common.{sym, ap, ap₂, ◌∙◌, append_assoc, append-nil}
 use Rattle.std.proofs.Math.Path.{fun_ext}
 use Rattle.text.specs.Text.{ascii}
@@ -16,10 +16,10 @@ use Rattle.entry.specs.Entry.Laws.{Accepted, accepted}
 use Rattle.dwarf.specs.declared.RegisterRule.{RegisterRule}
 use Rattle.dwarf.specs.declared.CfaRule.{CfaRule}
 use Rattle.dwarf.specs.Dwarf.{twos, Row, rows, load_address, last_end, fde_of, dwarf_layout, dwarf_skipped, dwarf_reach, Seen, never, seen}
-use Rattle.dwarf.specs.Dwarf.{differs, CfaSeen, no_cfa, last_cfa, cfa_differs, dwarf_judged, next_row, row_at, rows_from, row_count, registers}
-use Rattle.dwarf.specs.Dwarf.{member, once, row_fits, rows_fit, form_bytes, named_bytes, rule_bytes, cfa_bytes, ra_bytes, default_bytes, start_bytes}
-use Rattle.dwarf.specs.Dwarf.{line_bytes, row_bytes, remember, seen_after, ran_moved, ran_of, ran_row, ran_rows, nothing_seen, dwarf_text, dwarf_entry}
-use Rattle.dwarf.specs.Index.{layout_rows, row_rules, free_ind, once_free, once_rest, ran_row_lem, row_once_lem}
+use Rattle.dwarf.specs.Dwarf.{differs, CfaSeen, no_cfa, last_cfa, cfa_differs, dwarf_judged, row_count}
+use Rattle.dwarf.specs.Dwarf.{rows_fit, form_bytes, named_bytes, rule_bytes, cfa_bytes, ra_bytes, default_bytes, start_bytes}
+use Rattle.dwarf.specs.Dwarf.{line_bytes, row_bytes, remember, seen_after, ran_of, ran_row, ran_rows, nothing_seen, dwarf_text, dwarf_entry}
+use Rattle.dwarf.specs.Index.{layout_rows, row_rules, ran_row_lem, ra_moves, ran_ra, row_once, rows_once}
 use Rattle.dwarf.specs.Sense.{or_else, rule_for, last_rule, last_cfa_rule, rule_differs, cfa_changes, name_form, rule_forms, named, rule_rules, cfa_plus_rules, cfa_rules, ra_rules}
 use Rattle.dwarf.specs.Sense.{new_rules, ra_differs, family, return_register, first, end_of, default_rules, line_of, row_line, dwarf_row, dwarf_rows, dwarf_lines}
 
@@ -204,31 +204,12 @@ new_text f ra earlier (x ∷ xs) = rw (
   rule_differs_lem (earlier x.register) x,
 )
 
--- whether the return register's rule changes, against what was seen before the row
-ra_moves : ℕ → (ℕ → Seen) → List RegisterRule → Bool
-ra_moves ra c [] = false
-ra_moves ra c (x ∷ xs) = (eqb x.register ra && differs (c x.register) x.kind x.value) || ra_moves ra c xs
-
-ra_free : (ra : ℕ) (c : ℕ → Seen) (x : RegisterRule) (xs : List RegisterRule) → member x.register (registers xs) ≡ false
-    → ra_moves ra (remember c x) xs ≡ ra_moves ra c xs
-unfolding ra_moves
-ra_free ra c x = free_ind x (λ ys. ra_moves ra (remember c x) ys ≡ ra_moves ra c ys) refl (λ y ys e i. rw (e, i))
-
-ran_ra : (ra : ℕ) (c : ℕ → Seen) (xs : List RegisterRule) → T (once (registers xs)) → ran_moved ra c xs ≡ ra_moves ra c xs
-unfolding ran_moved ra_moves
-ran_ra ra c [] h = refl
-ran_ra ra c (x ∷ xs) h = rw (ran_ra ra (remember c x) xs (once_rest x xs h), ra_free ra c x xs (once_free x xs h))
-
 moves_differs : (ra : ℕ) (earlier : ℕ → List RegisterRule) (xs : List RegisterRule) → ra_moves ra (seen_by earlier) xs ≡ ra_differs ra earlier xs
 unfolding ra_moves ra_differs seen_by
 moves_differs ra earlier [] = refl
 moves_differs ra earlier (x ∷ xs) = rw (rule_differs_lem (earlier x.register) x, moves_differs ra earlier xs)
 
 -- ---- all rows
-
--- 01, DWARF body: no register twice in a row
-abbrev row_once : Row → Bool
-row_once w = once (registers w.rules)
 
 row_ran : (b : List ℕ) (ds : List Row) (w : Row) → T (row_once w) → render false (dwarf_row b ds w) ≡ ran_row (fde_of b) (cfa_seen (last_cfa_rule ds)) (seen_by (last_rule ds)) w
 unfolding ran_row ran_of dwarf_row fde_of
@@ -254,12 +235,6 @@ rows_ran b ds s c (w ∷ ws) i j h =
     rw (i, j) (render_append false (dwarf_row b ds w) _ ∙ ap₂ (λ (s t : Bytes). s ++ t) (row_ran b ds w (and_l (row_once w) _ h))
     (rows_ran b (ds ++ (w ∷ [])) (last_cfa w.cfa) (seen_after (seen_by (last_rule ds)) w.rules) ws (ap cfa_seen (sym (cfa_snoc ds w)))
     (fun_ext λ r. after_row ds w r) (and_r (row_once w) _ h)))
-
-rows_once : (ws : List ℕ) (m a : ℕ) → T (rows_fit ws m a) → T (all row_once (rows_from ws m a))
-unfolding rows_fit rows_from
-rows_once ws zero a h = tt
-rows_once ws (suc m) a h =
-    both (row_once (row_at ws a)) _ (row_once_lem ws a (and_l (row_fits ws a) _ h)) (rows_once ws m (next_row ws a) (and_r (row_fits ws a) _ h))
 
 -- the text as it is run is the rendering of the lines
 pub dwarf_text_lem : (b : List ℕ) → T (rows_fit b (row_count b) 7) → dwarf_text b ≡ render false (dwarf_lines b)

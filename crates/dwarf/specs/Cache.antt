@@ -1,5 +1,5 @@
--- The rules last seen as the code keeps them: arrays with a count, and what they say of each register; and what its walks have left.
-use Rattle.std.specs.Prelude.{◌≡◌, Bool, true, cond, ◌||◌, ◌&&◌, List, [], ◌∷◌, ◌++◌, ℕ, suc, ◌+◌, take, get_or, eqb, leb, ltb, Option, Some, None, is_some}
+-- The rules last seen as the code keeps them: arrays with a count, and what they say of each register.
+use Rattle.std.specs.Prelude.{◌≡◌, Bool, true, cond, ◌&&◌, List, [], ◌∷◌, ◌++◌, ℕ, suc, ◌+◌, take, get_or, eqb, leb, ltb, Option, Some, None, is_some}
 use Rattle.text.specs.Tests.{any}
 use Rattle.lines.specs.Lines.{form_text, rule_text}
 use Rattle.rules.specs.declared.Form.{Form}
@@ -7,15 +7,10 @@ use Rattle.rules.specs.declared.Rule.{Rule}
 use Rattle.rules.specs.Rules.{form_of, rule_of}
 use Rattle.dwarf.specs.declared.RegisterRule.{RegisterRule}
 use Rattle.dwarf.specs.declared.CfaRule.{CfaRule}
-use Rattle.dwarf.specs.declared.Fde.{Fde}
 use Rattle.dwarf.specs.declared.RuleCache.{RuleCache}
 use Rattle.dwarf.specs.declared.RowState.{RowState}
-use Rattle.dwarf.specs.declared.RowScan.{RowScan}
 use Rattle.dwarf.specs.declared.Registers.{Registers}
-use Rattle.dwarf.specs.declared.body.Rules.{Rules}
-use Rattle.dwarf.specs.declared.body.RowWords.{RowWords}
-use Rattle.dwarf.specs.declared.body.Rows.{Rows}
-use Rattle.dwarf.specs.Dwarf.{Seen, never, seen, CfaSeen, no_cfa, last_cfa, distinct, remember, Row, rules_from, row_at, rows_from, cfa_bytes, seen_after, ran_rules, ran_moved}
+use Rattle.dwarf.specs.Dwarf.{Seen, never, seen, CfaSeen, no_cfa, last_cfa, distinct, remember, Row, seen_after}
 
 -- the first place of q in a list, or the list's length
 unfoldable pub first_in : List ℕ → ℕ → ℕ
@@ -69,35 +64,17 @@ unfoldable pub formatted : Option Rule → List ℕ
 formatted None = []
 formatted (Some r) = rule_text (rule_of r)
 
--- ---- what loops over a row's rules, from the rules c last seen on, come to
+-- ---- rules that are remembered, one after the other
 
--- to the rules d; `already` says that something was written before them
-pub record Scanned (family ra : ℕ) (c : RuleCache) (already : Bool) (xs : List RegisterRule) (d : RuleCache) (r : RowScan) : Type 0 where
+-- behind the rules xs the rules c are the rules d
+pub record Remembers (c : RuleCache) (xs : List RegisterRule) (d : RuleCache) : Type 0 where
   pub sees : lookup d ≡ seen_after (lookup c) xs
   pub counts : d.count ≡ c.count + fresh (lookup c) xs
-  pub writes : r.written ≡ already || any (ran_rules family ra (lookup c) xs)
-  pub moves : r.ra_written ≡ ran_moved ra (lookup c) xs
 
 -- the state behind a row
 pub record After (s : RowState) (w : Row) (r : RowState) : Type 0 where
   pub cfa_is : cfa_of r ≡ last_cfa w.cfa
-  pub sees : lookup r.rules ≡ seen_after (lookup s.rules) w.rules
-  pub counts : r.rules.count ≡ s.rules.count + fresh (lookup s.rules) w.rules
-
--- what a row writes, `ran_of`, once it is known whether its CFA changed
-abbrev pub ran_parts : Fde → Bool → (ℕ → Seen) → Row → List ℕ
-ran_parts e changed c w = cond changed (cfa_bytes e.family w.cfa) [] ++ ran_rules e.family e.ra c w.rules
-
--- ---- what the walks have left
-
-abbrev pub rules_left : Rules → List RegisterRule
-rules_left r = rules_from r.words.now r.left r.at
-
-abbrev pub row_of : RowWords → Row
-row_of r = row_at r.words.now r.at
-
-abbrev pub rows_left : Rows → List Row
-rows_left r = rows_from r.words.now r.left r.at
+  pub rules : Remembers s.rules w.rules r.rules
 
 -- ---- the registers met in a body
 

@@ -1,50 +1,19 @@
--- One step of each definition over the words, as the code's loops take them, and what the layout gives them.
-use Rattle.std.specs.Prelude.{◌≡◌, refl, ℕ, zero, suc, ◌+◌, ◌-◌, ◌*◌, ◌≤◌, ◌<◌, Bool, true, false, not, cond, ◌&&◌, ◌||◌, List, [], ◌∷◌, ◌++◌, length, T, ltb, leb, eqb}
+-- What the layout gives the code's loops, and that comparing as a row goes is comparing with what was seen before it.
+use Rattle.std.specs.Prelude.{◌≡◌, refl, ℕ, zero, suc, ◌+◌, ◌*◌, ◌≤◌, Bool, true, false, not, cond, ◌&&◌, ◌||◌, List, [], ◌∷◌, ◌++◌, length, T, leb, eqb}
 use Rattle.std.proofs.Common.{sym, ap, arith, length-append, leb→le, eqb→eq, le-leb, ne_eqb}
 use Rattle.std.proofs.lemmas.Bool.{eqb-false}
-use Rattle.text.specs.Tests.{is_false, and_l, and_r, one_less}
+use Rattle.text.specs.Tests.{is_false, and_l, and_r, both, all}
 use Rattle.dwarf.specs.declared.RegisterRule.{RegisterRule}
-use Rattle.entry.specs.Entry.{word}
-use Rattle.dwarf.specs.Dwarf.{rule_at, rules_from, rule_count, next_row, row_at, rows_from, row_count, rows, registers, member, once, distinct, rules_fit, cfa_fits}
+use Rattle.dwarf.specs.Dwarf.{Row, rules_from, rule_count, next_row, row_at, rows_from, row_count, rows, registers, member, once, distinct, rules_fit, cfa_fits}
 use Rattle.dwarf.specs.Dwarf.{row_fits, rows_fit, rules_of, head_fits, dwarf_layout}
-use Rattle.dwarf.specs.Dwarf.{rule_bytes, Seen, seen, differs, remember, seen_after, ran_rules, nothing_seen}
+use Rattle.dwarf.specs.Dwarf.{rule_bytes, Seen, seen, differs, remember, seen_after, ran_rules, ran_moved, nothing_seen}
 use Rattle.dwarf.specs.Cache.{newly, fresh}
 
--- ---- steps
-
-pub rules_step : (ws : List ℕ) (n a : ℕ) → 0 < n → rules_from ws n a ≡ rule_at ws a ∷ rules_from ws (n - 1) (a + 4)
-unfolding rules_from
-rules_step ws n a h = ap (λ (k : ℕ). rules_from ws k a) (one_less n h)
-
-pub rows_step : (ws : List ℕ) (m a : ℕ) → 0 < m → rows_from ws m a ≡ row_at ws a ∷ rows_from ws (m - 1) (next_row ws a)
-unfolding rows_from
-rows_step ws m a h = ap (λ (k : ℕ). rows_from ws k a) (one_less m h)
-
-pub rows_fit_step : (ws : List ℕ) (m a : ℕ) → 0 < m → rows_fit ws m a ≡ row_fits ws a && rows_fit ws (m - 1) (next_row ws a)
-unfolding rows_fit
-rows_fit_step ws m a h = ap (λ (k : ℕ). rows_fit ws k a) (one_less m h)
-
 -- ---- what the layout gives
-
-pub row_few : (ws : List ℕ) (a : ℕ) → T (row_fits ws a) → rule_count ws a ≤ 64
-unfolding row_fits
-row_few ws a h = leb→le (rule_count ws a) 64 (and_r (cfa_fits ws a) _ (and_l (cfa_fits ws a && leb (rule_count ws a) 64) _ h))
 
 pub row_once_lem : (ws : List ℕ) (a : ℕ) → T (row_fits ws a) → T (once (registers (row_at ws a).rules))
 unfolding row_fits
 row_once_lem ws a h = and_r (rules_fit ws (rule_count ws a) (a + 9)) _ (and_r (cfa_fits ws a && leb (rule_count ws a) 64) _ h)
-
--- rows have at most 265 words
-pub row_bound : (ws : List ℕ) (a m : ℕ) → T (row_fits ws a) → 0 < m → a + 265 * m ≤ 271367 → next_row ws a + 265 * (m - 1) ≤ 271367
-row_bound ws a m h k b = omega (arith, row_few ws a h)
-
-pub head_few : (ws : List ℕ) → T (head_fits ws) → row_count ws ≤ 1024
-unfolding head_fits
-head_few ws h = leb→le (row_count ws) 1024 (and_r (ltb (word ws 5) 65536) _ (and_r (leb (word ws 0) 10) _ h))
-
-pub layout_few : (ws : List ℕ) → T (dwarf_layout ws) → row_count ws ≤ 1024
-unfolding dwarf_layout
-layout_few ws h = head_few ws (and_l (head_fits ws) _ h)
 
 pub layout_rows : (ws : List ℕ) → T (dwarf_layout ws) → T (rows_fit ws (row_count ws) 7)
 unfolding dwarf_layout
@@ -53,6 +22,16 @@ layout_rows ws h = and_l (rows_fit ws (row_count ws) 7) _ (and_r (head_fits ws) 
 pub layout_distinct : (ws : List ℕ) → T (dwarf_layout ws) → distinct [] (registers (rules_of (rows ws))) ≤ 64
 unfolding dwarf_layout
 layout_distinct ws h = leb→le (distinct [] (registers (rules_of (rows ws)))) 64 (and_r (rows_fit ws (row_count ws) 7) _ (and_r (head_fits ws) _ h))
+
+-- 01, DWARF body: no register twice in a row
+abbrev pub row_once : Row → Bool
+row_once w = once (registers w.rules)
+
+pub rows_once : (ws : List ℕ) (m a : ℕ) → T (rows_fit ws m a) → T (all row_once (rows_from ws m a))
+unfolding rows_fit rows_from
+rows_once ws zero a h = tt
+rows_once ws (suc m) a h =
+    both (row_once (row_at ws a)) _ (row_once_lem ws a (and_l (row_fits ws a) _ h)) (rows_once ws m (next_row ws a) (and_r (row_fits ws a) _ h))
 
 -- a body of few words for its rows has few rules, and so few registers
 rules_long : (ws : List ℕ) (n a : ℕ) → length (rules_from ws n a) ≡ n
@@ -76,10 +55,9 @@ distinct_few met (x ∷ xs) = go (member x.register met) (distinct_few (x.regist
     go true h = omega arith
     go false h = omega arith
 
-pub few_words : (ws : List ℕ) → T (rows_fit ws (row_count ws) 7) → length ws ≤ 263 + 9 * row_count ws → true ≡ leb (distinct [] (registers (rules_of (rows ws)))) 64
-unfolding rows
-few_words ws h k =
-    sym (le-leb (distinct [] (registers (rules_of (rows ws)))) 64 (omega (arith, rows_words ws (row_count ws) 7 h, distinct_few [] (rules_of (rows_from ws (row_count ws) 7)))))
+pub few_words : (ws : List ℕ) (m : ℕ) → T (rows_fit ws m 0) → length ws ≤ 256 + 9 * m → true ≡ leb (distinct [] (registers (rules_of (rows_from ws m 0)))) 64
+few_words ws m h k = sym (le-leb (distinct [] (registers (rules_of (rows_from ws m 0)))) 64
+    (omega (arith, rows_words ws m 0 h, distinct_few [] (rules_of (rows_from ws m 0)))))
 
 -- ---- registers met
 
@@ -148,3 +126,18 @@ pub ran_row_lem : (f ra : ℕ) (c : ℕ → Seen) (xs : List RegisterRule) → T
 unfolding ran_rules row_rules
 ran_row_lem f ra c [] h = refl
 ran_row_lem f ra c (x ∷ xs) h = rw (ran_row_lem f ra (remember c x) xs (once_rest x xs h), row_free f ra c x xs (once_free x xs h))
+
+-- whether the return register's rule changes, against what was seen before the row
+unfoldable pub ra_moves : ℕ → (ℕ → Seen) → List RegisterRule → Bool
+ra_moves ra c [] = false
+ra_moves ra c (x ∷ xs) = (eqb x.register ra && differs (c x.register) x.kind x.value) || ra_moves ra c xs
+
+ra_free : (ra : ℕ) (c : ℕ → Seen) (x : RegisterRule) (xs : List RegisterRule) → member x.register (registers xs) ≡ false
+    → ra_moves ra (remember c x) xs ≡ ra_moves ra c xs
+unfolding ra_moves
+ra_free ra c x = free_ind x (λ ys. ra_moves ra (remember c x) ys ≡ ra_moves ra c ys) refl (λ y ys e i. rw (e, i))
+
+pub ran_ra : (ra : ℕ) (c : ℕ → Seen) (xs : List RegisterRule) → T (once (registers xs)) → ran_moved ra c xs ≡ ra_moves ra c xs
+unfolding ran_moved ra_moves
+ran_ra ra c [] h = refl
+ran_ra ra c (x ∷ xs) h = rw (ran_ra ra (remember c x) xs (once_rest x xs h), ra_free ra c x xs (once_free x xs h))

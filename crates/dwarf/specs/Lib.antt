@@ -1,5 +1,6 @@
 pub mod Dwarf
 pub mod Cache
+pub mod Slices
 pub mod Index
 pub mod Sense
 pub mod Worked

@@ -15,13 +15,15 @@
 //     2 value offset   N, signed      is CFA + N
 //     3 register       register       is that register
 //     4 other          -              cannot be written; it is remembered all the same
-ghost use Rattle.std.specs.Prelude.{get_or, ◌≡◌, ◌^◌, ◌+◌, ◌*◌, ◌<◌, ◌≤◌, T};
-ghost use Rattle.dwarf.specs.Dwarf.{wide, used_value, rule_at, rules_from, rule_count, rows, load_address, first_start, last_end, fde_of, row_fits, rows_fit, dwarf_layout};
+ghost use Rattle.std.specs.Prelude.{◌≡◌, ◌^◌, ◌+◌, ◌*◌, ◌<◌, ◌≤◌, drop, length, MatchOption, T};
+ghost use Rattle.dwarf.specs.Dwarf.{wide, used_value, rows_from, rows as rows_of, row_count, load_address, first_start, last_end, fde_of, next_row, rows_fit, dwarf_layout};
 
 use crate::{CfaRule, Fde, RegisterRule};
 use entry::word;
 
-// Where the words of a body stand. A 64-bit number is two words, the low one first.
+// How many words stand in front of the rows, and where those that are read alone do.
+pub(crate) const HEAD_WORDS: usize = 7;
+
 pub(crate) const FAMILY_AT: usize = 0;
 
 pub(crate) const INITIAL_ADDRESS_AT: usize = 1;
@@ -30,31 +32,14 @@ pub(crate) const LOAD_ADDRESS_AT: usize = 3;
 
 pub(crate) const RETURN_REGISTER_AT: usize = 5;
 
-pub(crate) const ROW_COUNT_AT: usize = 6;
-
-// The rows follow.
-pub(crate) const ROWS_AT: usize = 7;
-
-// Where the words of a row stand, behind its start.
-const END_AT: usize = 2;
-
-pub(crate) const CFA_KIND_AT: usize = 4;
-
-pub(crate) const CFA_REGISTER_AT: usize = 5;
-
-const CFA_OFFSET_AT: usize = 6;
-
-pub(crate) const RULE_COUNT_AT: usize = 8;
-
-// The rules follow.
-pub(crate) const RULES_AT: usize = 9;
-
-// Where the words of a rule stand, behind its register.
-pub(crate) const KIND_AT: usize = 1;
-
-pub(crate) const VALUE_AT: usize = 2;
+// How many words a row has in front of its rules, and a rule.
+pub(crate) const ROW_WORDS: usize = 9;
 
 pub(crate) const RULE_WORDS: usize = 4;
+
+pub(crate) type RowHead = [u32; ROW_WORDS];
+
+pub(crate) type RuleWords = [u32; RULE_WORDS];
 
 // The kinds of a rule.
 pub(crate) const SAME: u32 = 0;
@@ -72,126 +57,105 @@ pub(crate) const CFA_REGISTER: u32 = 0;
 
 pub(crate) const CFA_EXPRESSION: u32 = 1;
 
-// And here as values of rules.
+// Register numbers as values of rules end here.
 pub(crate) const REGISTER_VALUES: u64 = 65536;
 
 // An initial address that marks an entry as void.
 pub(crate) const ALL_ONES: u64 = 0xffff_ffff_ffff_ffff;
 
-// 64 bits from here on are negative.
-const SIGN: u64 = 0x8000_0000_0000_0000;
-
-// Two words from i on, the low one first.
-#[tactic(auto, unfolding(crate::specs::Dwarf::wide))]
-pub(crate) fn word64(body: &[u32], i: usize) -> u64
-    requires { i < 2 ^ 32 }
-    ensures { result ≡ wide body.now i }
+fn wide(low: u32, high: u32) -> u64
+    ensures { result ≡ low + high * 2 ^ 32 }
 {
-    let low = word(body, i);
-    let high = word(body, i + 1);
-    (low as u64) + (high as u64) * 0x1_0000_0000
+    u64::from(low) | u64::from(high) << 32
 }
 
+// Two words from i on.
+#[tactic(auto, unfolding(crate::specs::Dwarf::wide))]
+pub(crate) fn word64(words: &[u32], i: usize) -> u64
+    requires { i < 2 ^ 32 }
+    ensures { result ≡ wide words.now i }
+{
+    wide(word(words, i), word(words, i + 1))
+}
+
+// ---- a rule
+
+#[tactic(auto, unfolding(crate::specs::Dwarf::used_value))]
 fn used_value(kind: u32, value: u64) -> u64
     ensures { result ≡ used_value kind value }
 {
-    if kind < OFFSET {
-        return 0;
-    }
-    if REGISTER < kind {
-        return 0;
-    }
-    value
-}
-
-// The rule whose words start at a.
-#[tactic(auto, unfolding(crate::specs::Dwarf::rule_at))]
-pub(crate) fn rule_at(body: &[u32], a: usize) -> RegisterRule
-    requires { a < 2 ^ 21 }
-    ensures { result ≡ rule_at body.now a }
-{
-    let register = word(body, a);
-    let kind = word(body, a + KIND_AT);
-    let value = used_value(kind, word64(body, a + VALUE_AT));
-    RegisterRule {
-        register,
-        kind,
-        value,
+    match kind {
+        OFFSET..=REGISTER => value,
+        _ => 0,
     }
 }
 
-// The rules of a row that are left, from word `at` on.
-#[derive(Clone, Copy)]
-pub(crate) struct Rules<'a> {
-    words: &'a [u32],
-    at: usize,
-    left: usize,
-    ghost near: { at + 4 * left < 2 ^ 21 },
-}
+impl From<RuleWords> for RegisterRule {
+    ghost use Rattle.dwarf.specs.Slices.{rule_in};
 
-impl<'a> Rules<'a> {
-    ghost use Rattle.dwarf.specs.Cache.{rules_left};
+    ghost from_gives = { λ w r. r ≡ rule_in w };
 
-    pub(crate) fn new(words: &'a [u32], at: usize, left: usize) -> Rules<'a>
-        requires { (at < 2 ^ 20) × (left ≤ 64) }
-        ensures { rules_left result ≡ rules_from words.now left at }
-    {
-        Rules { words, at, left }
-    }
-}
-
-impl<'a> Iterator for Rules<'a> {
-    ghost use Rattle.std.specs.Iterator.{YieldsFirst, item_count};
-    ghost use Rattle.dwarf.specs.Cache.{rules_left};
-
-    type Item = RegisterRule;
-
-    ghost next_gives = { YieldsFirst rules_left };
-
-    ghost remaining = { item_count rules_left };
-
-    fn next(&mut self) -> Option<RegisterRule> {
-        if self.left == 0 {
-            return None;
+    #[tactic(auto, unfolding(crate::specs::Slices::rule_in, crate::specs::Dwarf::rule_at, crate::specs::Dwarf::wide))]
+    fn from([register, kind, low, high]: RuleWords) -> RegisterRule {
+        let value = used_value(kind, wide(low, high));
+        RegisterRule {
+            register,
+            kind,
+            value,
         }
-        let rule = rule_at(self.words, self.at);
-        self.at += RULE_WORDS;
-        self.left -= 1;
-        Some(rule)
     }
 }
 
-// A row that fits: the words of a body from word `at` on.
+// ---- a row
+
+// The words in front of a row's rules, and those of the rules.
 #[derive(Clone, Copy)]
 pub(crate) struct RowWords<'a> {
-    words: &'a [u32],
-    at: usize,
-    ghost near: { at < 2 ^ 19 },
-    ghost fits: { T (row_fits words.now at) },
+    pub(crate) head: &'a RowHead,
+    pub(crate) rules: &'a [RuleWords],
 }
 
 impl<'a> RowWords<'a> {
-    ghost use Rattle.dwarf.specs.Cache.{rules_left, row_of};
+    ghost use Rattle.dwarf.specs.Slices.{row_of, IsRow};
 
+    // The row that the words begin with, and the words behind it; none where they are too few.
+    pub(crate) fn split(words: &'a [u32]) -> Option<(RowWords<'a>, &'a [u32])>
+        ensures { MatchOption result (length words.now < next_row words.now 0)
+            (λ p. (next_row words.now 0 ≤ length words.now) × IsRow words.now p.0.head.now p.0.rules.now × (p.1.now ≡ drop (next_row words.now 0) words.now)) }
+    {
+        let (head, behind) = words.split_first_chunk::<ROW_WORDS>()?;
+        let [.., count] = *head;
+        let end = RULE_WORDS * count as usize;
+        if behind.len() < end {
+            return None;
+        }
+        let (rules, _) = behind[..end].as_chunks::<RULE_WORDS>();
+        Some((RowWords { head, rules }, &behind[end..]))
+    }
+
+    #[tactic(auto, unfolding(crate::specs::Dwarf::wide))]
     pub(crate) fn start(self) -> u64
-        ensures { result ≡ (row_of self.entry).start }
+        ensures { result ≡ (row_of self.entry.head.now self.entry.rules.now).start }
     {
-        word64(self.words, self.at)
+        let [low, high, ..] = *self.head;
+        wide(low, high)
     }
 
+    #[tactic(auto, unfolding(crate::specs::Dwarf::wide))]
     fn end(self) -> u64
-        ensures { result ≡ (row_of self.entry).end }
+        ensures { result ≡ (row_of self.entry.head.now self.entry.rules.now).end }
     {
-        word64(self.words, self.at + END_AT)
+        let [_, _, low, high, ..] = *self.head;
+        wide(low, high)
     }
 
+    #[tactic(auto, unfolding(crate::specs::Dwarf::cfa_at, crate::specs::Dwarf::wide))]
     pub(crate) fn cfa(self) -> CfaRule
-        ensures { result ≡ (row_of self.entry).cfa }
+        ensures { result ≡ (row_of self.entry.head.now self.entry.rules.now).cfa }
     {
-        let kind = word(self.words, self.at + CFA_KIND_AT);
+        let [_, _, _, _, kind, register, low, high, _] = *self.head;
         if kind == CFA_REGISTER {
-            let register = word(self.words, self.at + CFA_REGISTER_AT);
-            let offset = word64(self.words, self.at + CFA_OFFSET_AT);
+            let offset = wide(low, high);
             return CfaRule {
                 kind,
                 register,
@@ -204,53 +168,24 @@ impl<'a> RowWords<'a> {
             offset: 0,
         }
     }
-
-    fn rule_count(self) -> usize
-        ensures { result ≡ rule_count self.entry.words.now self.entry.at }
-    {
-        word(self.words, self.at + RULE_COUNT_AT) as usize
-    }
-
-    pub(crate) fn rules(self) -> Rules<'a>
-        ensures { rules_left result ≡ (row_of self.entry).rules }
-    {
-        Rules::new(self.words, self.at + RULES_AT, self.rule_count())
-    }
 }
 
-// The rows of a body that are left, from word `at` on: they fit.
+// ---- the rows that are left of a body: so many, and nothing behind them
+
 #[derive(Clone, Copy)]
 pub(crate) struct Rows<'a> {
-    words: &'a [u32],
-    at: usize,
-    left: usize,
-    ghost near: { at + 265 * left ≤ 271367 },
-    ghost fits: { T (rows_fit words.now left at) },
-}
-
-impl<'a> Rows<'a> {
-    ghost use Rattle.dwarf.specs.Cache.{rows_left};
-
-    // All of a body.
-    pub(crate) fn new(words: &'a [u32]) -> Rows<'a>
-        requires { (get_or words.now 6 0 ≤ 1024) × T (rows_fit words.now (get_or words.now 6 0) 7) }
-        ensures { rows_left result ≡ rows words.now }
-    {
-        Rows {
-            words,
-            at: ROWS_AT,
-            left: word(words, ROW_COUNT_AT) as usize,
-        }
-    }
+    pub(crate) words: &'a [u32],
+    pub(crate) left: u32,
+    ghost fit: { T (rows_fit words.now left 0) },
 }
 
 impl<'a> Iterator for Rows<'a> {
     ghost use Rattle.std.specs.Iterator.{YieldsFirstBy, item_count};
-    ghost use Rattle.dwarf.specs.Cache.{row_of, rows_left};
+    ghost use Rattle.dwarf.specs.Slices.{row_is, rows_left};
 
     type Item = RowWords<'a>;
 
-    ghost next_gives = { YieldsFirstBy row_of rows_left };
+    ghost next_gives = { YieldsFirstBy row_is rows_left };
 
     ghost remaining = { item_count rows_left };
 
@@ -258,32 +193,26 @@ impl<'a> Iterator for Rows<'a> {
         if self.left == 0 {
             return None;
         }
-        let row = RowWords {
-            words: self.words,
-            at: self.at,
-        };
-        self.at = self.at + RULES_AT + RULE_WORDS * row.rule_count();
+        let (row, behind) = RowWords::split(self.words).unwrap();
+        self.words = behind;
         self.left -= 1;
         Some(row)
     }
 }
 
+// ---- a body
+
 // A body that is laid out: refusal 4 does not apply.
 #[derive(Clone, Copy)]
 pub(crate) struct Body<'a> {
     pub(crate) words: &'a [u32],
+    pub(crate) rows: Rows<'a>,
     ghost laid_out: { T (dwarf_layout words.now) },
+    ghost rows_are: { rows_from rows.words.now rows.left 0 ≡ rows_of words.now },
+    ghost count_is: { rows.left ≡ row_count words.now },
 }
 
 impl<'a> Body<'a> {
-    ghost use Rattle.dwarf.specs.Cache.{rows_left};
-
-    pub(crate) fn rows(self) -> Rows<'a>
-        ensures { rows_left result ≡ rows self.entry.words.now }
-    {
-        Rows::new(self.words)
-    }
-
     pub(crate) fn load(self) -> u64
         ensures { result ≡ load_address self.entry.words.now }
     {
@@ -291,9 +220,10 @@ impl<'a> Body<'a> {
     }
 
     pub(crate) fn first_start(self) -> u64
-        ensures { result ≡ first_start (rows self.entry.words.now) }
+        ensures { result ≡ first_start (rows_of self.entry.words.now) }
     {
-        match self.rows().next() {
+        let mut rows = self.rows;
+        match rows.next() {
             Some(row) => row.start(),
             None => 0,
         }
@@ -301,10 +231,10 @@ impl<'a> Body<'a> {
 
     // The last row's end.
     pub(crate) fn last_end(self) -> u64
-        ensures { result ≡ last_end 0 (rows self.entry.words.now) }
+        ensures { result ≡ last_end 0 (rows_of self.entry.words.now) }
     {
         let mut end = 0;
-        for row in self.rows() {
+        for row in self.rows {
             end = row.end();
         }
         end

@@ -1,17 +1,16 @@
 // What becomes of a DWARF entry: refused by 4, skipped, refused by 6, or written.
-ghost use Rattle.std.specs.Prelude.{◌≡◌, cond, [], ◌+◌, ◌^◌, ◌<◌, ◌≤◌, get_or, ◌∷◌, false, eqb, leb, ltb, MatchResult};
-ghost use Rattle.std.specs.List.{list_all};
-ghost use Rattle.refusal.specs.declared.Refusal.TheVariants.{Layout};
-ghost use Rattle.dwarf.specs.Dwarf.{rows, registers, member, once, row_fits, rows_fit, head_fits, dwarf_layout, dwarf_skipped, dwarf_reach, dwarf_judged, any_below, rules_of, distinct};
-ghost use Rattle.dwarf.specs.Cache.{rules_left, rows_left, fits, Known};
+ghost use Rattle.std.specs.Prelude.{◌≡◌, ◌&&◌, cond, [], ◌∷◌, false, eqb, leb, ltb, MatchOption};
+ghost use Rattle.std.specs.List.{list_all, list_any};
+ghost use Rattle.dwarf.specs.Dwarf.{rows, registers, once, cfa_fits, rows_fit, dwarf_layout, dwarf_skipped, dwarf_reach, dwarf_judged, any_below, rules_of, distinct};
+ghost use Rattle.dwarf.specs.Cache.{fits, Known};
+ghost use Rattle.dwarf.specs.Slices.{rules_in, fits_in, names_in, row_fits_in, row_is, rows_left};
 
 use crate::body::{
-    ALL_ONES, Body, CFA_EXPRESSION, CFA_KIND_AT, CFA_REGISTER, CFA_REGISTER_AT, FAMILY_AT,
-    INITIAL_ADDRESS_AT, OTHER, REGISTER, REGISTER_VALUES, RETURN_REGISTER_AT, ROW_COUNT_AT,
-    ROWS_AT, RULE_COUNT_AT, RULE_WORDS, RULES_AT, Rows, Rules, word64,
+    ALL_ONES, Body, CFA_EXPRESSION, CFA_REGISTER, HEAD_WORDS, INITIAL_ADDRESS_AT, OTHER, REGISTER,
+    REGISTER_VALUES, ROW_WORDS, RULE_WORDS, RowHead, RowWords, Rows, RuleWords, word64,
 };
 use crate::{RegisterRule, Registers};
-use entry::{Fate, word};
+use entry::Fate;
 use refusal::Refusal;
 
 // The largest that a body may have (docs/BOOK.md).
@@ -19,13 +18,10 @@ const MOST_FAMILY: u32 = 10;
 
 const MOST_ROWS: u32 = 1024;
 
-const MOST_RULES: u32 = 64;
+const MOST_RULES: usize = 64;
 
 // The registers that rules may name in a body.
 const MOST_REGISTERS: usize = 64;
-
-// The words of a head and of so many rules.
-const FEW_WORDS: usize = ROWS_AT + RULE_WORDS * MOST_REGISTERS;
 
 // Register numbers end here.
 const REGISTERS: u32 = 65536;
@@ -47,70 +43,76 @@ fn rule_fits(rule: RegisterRule) -> bool
     (rule.register < REGISTERS) & kind_fits(rule.kind, rule.value)
 }
 
-fn rules_fit(mut rules: Rules) -> bool
-    ensures { result ≡ list_all fits (rules_left rules.entry) }
+fn rules_fit(rules: &[RuleWords]) -> bool
+    ensures { result ≡ list_all fits_in rules.now }
 {
-    rules.all(|rule| rule_fits(rule))
+    rules
+        .iter()
+        .all(|words| rule_fits(RegisterRule::from(*words)))
 }
 
-fn names_register(mut rules: Rules, register: u32) -> bool
-    ensures { result ≡ member register (registers (rules_left rules.entry)) }
+fn names_register(rules: &[RuleWords], register: u32) -> bool
+    ensures { result ≡ list_any (names_in register) rules.now }
 {
-    rules.any(|rule| rule.register == register)
+    rules.iter().any(|&[named, ..]| named == register)
 }
 
-// No register twice.
-fn named_once(mut rules: Rules) -> bool
-    ensures { result ≡ once (registers (rules_left rules.entry)) }
+// No register twice. Each turn needs the rules behind its own, which a `for` does not have.
+fn named_once(mut rules: &[RuleWords]) -> bool
+    ensures { result ≡ once (registers (rules_in rules.entry.now)) }
 {
-    while let Some(rule) = rules.next() {
-        if names_register(rules, rule.register) {
+    while let Some(([register, ..], behind)) = rules.split_first() {
+        if names_register(behind, *register) {
             return false;
         }
+        rules = behind;
     }
     true
 }
 
-fn cfa_fits(kind: u32, register: u32) -> bool
-    ensures { result ≡ cond (eqb kind 0) (ltb register 65536) (eqb kind 1) }
+// Kind 0 with a register, or 1.
+#[tactic(auto, unfolding(crate::specs::Dwarf::cfa_fits))]
+fn cfa_fits(head: &RowHead) -> bool
+    ensures { result ≡ cfa_fits head.now 0 }
 {
-    if kind == CFA_REGISTER {
-        return register < REGISTERS;
+    let [_, _, _, _, kind, register, ..] = *head;
+    match kind {
+        CFA_REGISTER => register < REGISTERS,
+        CFA_EXPRESSION => true,
+        _ => false,
     }
-    kind == CFA_EXPRESSION
 }
 
-fn row_fits(words: &[u32], a: usize) -> bool
-    requires { a < 2 ^ 19 }
-    ensures { result ≡ row_fits words.now a }
-{
-    let kind = word(words, a + CFA_KIND_AT);
-    if !cfa_fits(kind, word(words, a + CFA_REGISTER_AT)) {
-        return false;
+impl<'a> RowWords<'a> {
+    #[tactic(auto, unfolding(crate::specs::Slices::row_fits_in))]
+    fn fits(self) -> bool
+        ensures { result ≡ row_fits_in self.entry.head.now self.entry.rules.now }
+    {
+        cfa_fits(self.head)
+            && self.rules.len() <= MOST_RULES
+            && rules_fit(self.rules)
+            && named_once(self.rules)
     }
-    let n = word(words, a + RULE_COUNT_AT);
-    if MOST_RULES < n {
-        return false;
-    }
-    let rules = Rules::new(words, a + RULES_AT, n as usize);
-    if !rules_fit(rules) {
-        return false;
-    }
-    named_once(rules)
 }
 
-fn rows_fit(words: &[u32]) -> bool
-    requires { get_or words.now 6 0 ≤ 1024 }
-    ensures { result ≡ rows_fit words.now (get_or words.now 6 0) 7 }
-{
-    let mut a: usize = ROWS_AT;
-    for _ in 0..word(words, ROW_COUNT_AT) {
-        if !row_fits(words, a) {
-            return false;
+impl<'a> Rows<'a> {
+    // The words as so many rows; none where one does not fit, or there are too few or too many.
+    fn read(words: &'a [u32], count: u32) -> Option<Rows<'a>>
+        ensures { MatchOption result (rows_fit words.now count 0 ≡ false) (λ r. (r.words.now ≡ words.now) × (r.left ≡ count)) }
+    {
+        let mut rest = words;
+        for _ in 0..count {
+            let (row, behind) = RowWords::split(rest)?;
+            if !row.fits() {
+                return None;
+            }
+            rest = behind;
         }
-        a = a + RULES_AT + RULE_WORDS * word(words, a + RULE_COUNT_AT) as usize;
+        if !rest.is_empty() {
+            return None;
+        }
+        Some(Rows { words, left: count })
     }
-    a == words.len()
 }
 
 // ---- refusal 4: the registers of a body
@@ -143,11 +145,11 @@ impl Registers {
 }
 
 // Whether there was room for a row's registers.
-fn meet_rules(rules: Rules, met: &mut Registers) -> bool
-    ensures { Known met.old (registers (rules_left rules.entry)) met.new result }
+fn meet_rules(rules: &[RuleWords], met: &mut Registers) -> bool
+    ensures { Known met.old (registers (rules_in rules.now)) met.new result }
 {
-    for rule in rules {
-        if !met.meet(rule.register) {
+    for [register, ..] in rules {
+        if !met.meet(*register) {
             return false;
         }
     }
@@ -158,9 +160,13 @@ fn meet_rules(rules: Rules, met: &mut Registers) -> bool
 fn registers_fit(rows: Rows) -> bool
     ensures { result ≡ leb (distinct [] (registers (rules_of (rows_left rows.entry)))) 64 }
 {
+    // With so few words behind the rows' own there are at most 64 rules.
+    if rows.words.len() <= RULE_WORDS * MOST_REGISTERS + ROW_WORDS * rows.left as usize {
+        return true;
+    }
     let mut met = Registers::start();
     for row in rows {
-        if !meet_rules(row.rules(), &mut met) {
+        if !meet_rules(row.rules, &mut met) {
             return false;
         }
     }
@@ -169,81 +175,58 @@ fn registers_fit(rows: Rows) -> bool
 
 // ---- refusal 4: all of it
 
-fn head_fits(words: &[u32]) -> bool
-    ensures { result ≡ head_fits words.now }
+fn head_fits(family: u32, ra: u32, count: u32) -> bool
+    ensures { result ≡ (leb family 10 && (ltb ra 65536 && leb count 1024)) }
 {
-    if MOST_FAMILY < word(words, FAMILY_AT) {
-        return false;
-    }
-    if REGISTERS <= word(words, RETURN_REGISTER_AT) {
-        return false;
-    }
-    word(words, ROW_COUNT_AT) <= MOST_ROWS
-}
-
-// Refusal 4 does not apply: ranges, and exactly the words that the counts demand.
-fn layout(words: &[u32]) -> bool
-    ensures { result ≡ dwarf_layout words.now }
-{
-    if !head_fits(words) {
-        return false;
-    }
-    if !rows_fit(words) {
-        return false;
-    }
-    // With so few words behind the rows' own there are at most 64 rules.
-    let count = word(words, ROW_COUNT_AT) as usize;
-    if words.len() <= FEW_WORDS + RULES_AT * count {
-        return true;
-    }
-    registers_fit(Rows::new(words))
+    family <= MOST_FAMILY && ra < REGISTERS && count <= MOST_ROWS
 }
 
 impl<'a> Body<'a> {
-    // The body of these words, unless refusal 4 applies.
-    pub(crate) fn read(words: &'a [u32]) -> Result<Body<'a>, Refusal>
-        ensures { MatchResult result (λ b. b.words.now ≡ words.now) (λ r. (r ≡ Layout) × (dwarf_layout words.now ≡ false)) }
+    // The body of these words; none where refusal 4 applies: ranges, and exactly the words that the counts demand.
+    pub(crate) fn read(words: &'a [u32]) -> Option<Body<'a>>
+        ensures { MatchOption result (dwarf_layout words.now ≡ false) (λ b. b.words.now ≡ words.now) }
     {
-        if !layout(words) {
-            return Err(Refusal::Layout);
+        let (&[family, _, _, _, _, ra, count], behind) = words.split_first_chunk::<HEAD_WORDS>()?;
+        if !head_fits(family, ra, count) {
+            return None;
         }
-        Ok(Body { words })
+        let rows = Rows::read(behind, count)?;
+        if !registers_fit(rows) {
+            return None;
+        }
+        Some(Body { words, rows })
     }
 
     // ---- skipping and refusal 6
 
+    #[tactic(auto, unfolding(crate::specs::Dwarf::dwarf_skipped))]
     fn skipped(self) -> bool
         ensures { result ≡ dwarf_skipped self.entry.words.now }
     {
-        if word64(self.words, INITIAL_ADDRESS_AT) == ALL_ONES {
-            return true;
-        }
-        if word(self.words, ROW_COUNT_AT) == 0 {
-            return true;
-        }
-        self.first_start() < self.load()
+        word64(self.words, INITIAL_ADDRESS_AT) == ALL_ONES
+            || self.rows.left == 0
+            || self.first_start() < self.load()
     }
 
     // A row that is not at the first start and starts below load.
     fn any_below(self, first: u64, load: u64) -> bool
         ensures { result ≡ any_below first load (rows self.entry.words.now) }
     {
-        let mut rows = self.rows();
+        let mut rows = self.rows;
         rows.any(|row| (row.start() != first) & (row.start() < load))
     }
 
     // Refusal 6 does not apply: no row ends before the first start or starts below load.
+    #[tactic(auto, unfolding(crate::specs::Dwarf::dwarf_reach))]
     fn reach(self) -> bool
         ensures { result ≡ dwarf_reach self.entry.words.now }
     {
         let first = self.first_start();
-        if self.last_end() < first {
-            return false;
-        }
-        !self.any_below(first, self.load())
+        !(self.last_end() < first || self.any_below(first, self.load()))
     }
 
     // What becomes of its entry: skipped, refused by 6, or written.
+    #[tactic(auto, unfolding(crate::specs::Dwarf::dwarf_judged))]
     pub(crate) fn judge(self) -> Result<Fate, Refusal>
         ensures { result ≡ dwarf_judged self.entry.words.now }
     {

@@ -70,13 +70,6 @@ pub struct RowState {
     pub rules: RuleCache,
 }
 
-// A row's rules read once: whether anything is written, and whether the return register's rule changed.
-#[derive(Clone, Copy)]
-pub struct RowScan {
-    pub written: bool,
-    pub ra_written: bool,
-}
-
 // Where the text goes on, and what is last seen there; a pair's fields would have no names.
 #[derive(Clone, Copy)]
 pub struct Placed {
@@ -93,7 +86,7 @@ pub fn process_fde(
 ) -> Result<Wrote, Refusal>
     ensures { Processed (dwarf_entry last body.now) out.old at out.new result }
 {
-    let body = Body::read(body)?;
+    let body = Body::read(body).ok_or(Refusal::Layout)?;
     match body.judge()? {
         Fate::Skip => Ok(Wrote { at, last }),
         Fate::Write => {

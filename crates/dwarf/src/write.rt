@@ -1,16 +1,18 @@
 // The lines of a DWARF entry, one for each row that has something new: the CFA's rule and the registers' rules that differ from those last seen.
-// A row is read twice: once for what it leaves and whether it writes anything, and then for its line.
-ghost use Rattle.std.specs.Prelude.{◌≡◌, cond, [], ◌+◌, ◌<◌, ◌≤◌, get_or, take, T, ◌==◌, position};
+// Where its CFA is not new, a row's rules are looked at twice: first for whether one of them is written.
+ghost use Rattle.std.specs.Prelude.{◌≡◌, [], ◌++◌, ◌+◌, ◌<◌, ◌≤◌, cond, get_or, take, T, ◌==◌, position};
+ghost use Rattle.std.specs.List.{list_any};
 ghost use Rattle.text.specs.Text.{Put};
 ghost use Rattle.text.specs.Tests.{any};
 ghost use Rattle.tables.specs.Tables.{cfi_name};
-ghost use Rattle.dwarf.specs.Dwarf.{rows, registers, once, seen, differs, remember, form_bytes, rule_bytes, cfa_bytes, ra_bytes, default_bytes, start_bytes, line_bytes, ran_row, ran_rules, dwarf_text, no_cfa, nothing_seen, ran_rows};
-ghost use Rattle.dwarf.specs.Cache.{rules_left, row_of, lookup, cfa_of, newly, fresh, Forms, formatted, Scanned, After, ran_parts};
+ghost use Rattle.dwarf.specs.Dwarf.{rows, registers, once, seen, differs, cfa_differs, remember, form_bytes, rule_bytes, cfa_bytes, ra_bytes, default_bytes, start_bytes, line_bytes, ran_row, ran_rules, ran_rows, dwarf_text, no_cfa, nothing_seen};
+ghost use Rattle.dwarf.specs.Cache.{lookup, cfa_if, cfa_of, newly, fresh, Forms, formatted, Remembers, After};
+ghost use Rattle.dwarf.specs.Slices.{rules_in, row_of, row_is, new_in, moved_in};
 
 use crate::body::{
-    Body, CFA_REGISTER, OFFSET, REGISTER, REGISTER_VALUES, RowWords, Rules, SAME, VALUE_OFFSET,
+    Body, CFA_REGISTER, OFFSET, REGISTER, REGISTER_VALUES, RowWords, RuleWords, SAME, VALUE_OFFSET,
 };
-use crate::{CfaRule, Fde, Placed, RegisterRule, RowScan, RowState, RuleCache};
+use crate::{CfaRule, Fde, Placed, RegisterRule, RowState, RuleCache};
 use lines::{put_init, put_later};
 use names::{cfi_register_name, has_cfi_name};
 use rules::{Form, Reg, Rule, cfa_name, put_rule, ra_name};
@@ -83,6 +85,15 @@ impl RuleCache {
                 self.count = q + 1;
                 true
             }
+        }
+    }
+
+    fn remember_all(&mut self, rules: &[RuleWords])
+        requires { self.old.count + fresh (lookup self.old) (rules_in rules.now) ≤ 64 }
+        ensures { Remembers self.old (rules_in rules.now) self.new }
+    {
+        for words in rules {
+            self.remember(RegisterRule::from(*words));
         }
     }
 }
@@ -162,24 +173,14 @@ fn format_default(fde: Fde) -> Option<Rule>
     None
 }
 
-// A register's rule, where it differs from the one last seen.
-fn new_rule(fde: Fde, rule: RegisterRule, changed: bool) -> Option<Rule>
-    ensures { formatted result ≡ cond changed (rule_bytes fde.family fde.ra rule) [] }
-{
-    if changed {
-        return format_rule(fde, rule);
-    }
-    None
-}
-
 // The CFA's rule, where it differs from the one last seen.
-fn new_cfa(family: u32, cfa: CfaRule, changed: bool) -> Option<Rule>
-    ensures { formatted result ≡ cond changed (cfa_bytes family cfa) [] }
+fn new_cfa(family: u32, cfa: CfaRule, last: Option<CfaRule>) -> Option<Rule>
+    ensures { formatted result ≡ cond (cfa_differs (cfa_if last) cfa) (cfa_bytes family cfa) [] }
 {
-    if changed {
-        return format_cfa(family, cfa);
+    if last == Some(cfa) {
+        return None;
     }
-    None
+    format_cfa(family, cfa)
 }
 
 fn put_formatted(out: &mut [u8], at: usize, rule: Option<Rule>) -> usize
@@ -193,33 +194,51 @@ fn put_formatted(out: &mut [u8], at: usize, rule: Option<Rule>) -> usize
 
 // ---- a row
 
-// The rules of a row are seen: whether one of them is written, or something was before, and whether the return register's changed.
-fn scan_rules(rules: Rules, fde: Fde, cache: &mut RuleCache, already: bool) -> RowScan
-    requires { cache.old.count + fresh (lookup cache.old) (rules_left rules) ≤ 64 }
-    ensures { Scanned fde.family fde.ra cache.old already (rules_left rules.entry) cache.new result }
+// Whether a rule can be written: it has the names that it needs.
+fn is_writable(fde: Fde, rule: RegisterRule) -> bool
+    ensures { result ≡ any (rule_bytes fde.family fde.ra rule) }
 {
-    let mut written = already;
-    let mut ra_written = false;
-    for rule in rules {
-        let changed = cache.remember(rule);
-        written |= new_rule(fde, rule, changed).is_some();
-        ra_written |= (rule.register == fde.ra) & changed;
-    }
-    RowScan {
-        written,
-        ra_written,
-    }
+    format_rule(fde, rule).is_some()
 }
 
-// The rules of a row that differ from those last seen. A row names no register twice, so those before it are the ones to compare with.
-fn put_rules(out: &mut [u8], at: usize, rules: Rules, fde: Fde, cache: &RuleCache) -> usize
-    requires { T (once (registers (rules_left rules))) }
-    ensures { Put out.old at (ran_rules fde.family fde.ra (lookup cache.now) (rules_left rules.entry)) out.new result }
+// Whether a rule of a row is written: it differs from the one last seen, and can be.
+fn any_new(rules: &[RuleWords], fde: Fde, cache: &RuleCache) -> bool
+    ensures { result ≡ list_any (new_in fde.family fde.ra (lookup cache.now)) rules.now }
+{
+    rules.iter().any(|words| {
+        let rule = RegisterRule::from(*words);
+        cache.differs(rule) && is_writable(fde, rule)
+    })
+}
+
+// Whether a register's rule differs from the one last seen.
+fn is_moved(rules: &[RuleWords], register: u32, cache: &RuleCache) -> bool
+    ensures { result ≡ list_any (moved_in register (lookup cache.now)) rules.now }
+{
+    rules.iter().any(|words| {
+        let rule = RegisterRule::from(*words);
+        rule.register == register && cache.differs(rule)
+    })
+}
+
+// The rules of a row that differ from those last seen; from now on they are these.
+fn put_rules(
+    out: &mut [u8],
+    at: usize,
+    rules: &[RuleWords],
+    fde: Fde,
+    cache: &mut RuleCache,
+) -> usize
+    requires { cache.old.count + fresh (lookup cache.old) (rules_in rules.now) ≤ 64 }
+    ensures puts { Put out.old at (ran_rules fde.family fde.ra (lookup cache.old) (rules_in rules.now)) out.new result }
+    ensures sees { Remembers cache.old (rules_in rules.now) cache.new }
 {
     let mut p = at;
-    for rule in rules {
-        let changed = cache.differs(rule);
-        p = put_formatted(out, p, new_rule(fde, rule, changed));
+    for words in rules {
+        let rule = RegisterRule::from(*words);
+        if cache.remember(rule) {
+            p = put_formatted(out, p, format_rule(fde, rule));
+        }
     }
     p
 }
@@ -235,53 +254,55 @@ fn put_start(out: &mut [u8], at: usize, fde: Fde, start: u64) -> usize
     put_later(out, at, false, address)
 }
 
-fn put_default(out: &mut [u8], at: usize, fde: Fde, start: u64, moved: bool) -> usize
-    ensures { Put out.old at (default_bytes fde start moved) out.new result }
+// The default, at the first start, where the return register's rule does not change.
+#[tactic(auto, unfolding(crate::specs::Dwarf::default_bytes, crate::specs::Cache::formatted))]
+fn new_default(fde: Fde, row: RowWords, cache: &RuleCache) -> Option<Rule>
+    ensures { let w = row_of row.entry.head.now row.entry.rules.now in formatted result ≡ default_bytes fde w.start (list_any (moved_in fde.ra (lookup cache.now)) row.entry.rules.now) }
 {
-    if (start == fde.start) & !moved {
-        return put_formatted(out, at, format_default(fde));
+    if row.start() == fde.start && !is_moved(row.rules, fde.ra, cache) {
+        return format_default(fde);
     }
-    at
+    None
 }
 
-// The line of a row, its rules compared with `cache`: `changed` says that the CFA changed, `moved` that the return register's rule did.
+// The line of a row, with its CFA's rule where that is new. The rules of the row are those last seen from now on.
 fn put_line(
     out: &mut [u8],
     at: usize,
     row: RowWords,
     fde: Fde,
-    changed: bool,
-    cache: &RuleCache,
-    moved: bool,
+    cfa: Option<Rule>,
+    cache: &mut RuleCache,
 ) -> usize
-    ensures { Put out.old at (line_bytes fde (row_of row.entry).start (ran_parts fde changed (lookup cache.now) (row_of row.entry)) moved) out.new result }
+    requires { cache.old.count + fresh (lookup cache.old) (rules_in row.rules.now) ≤ 64 }
+    ensures puts { let w = row_of row.entry.head.now row.entry.rules.now in
+        let moved = list_any (moved_in fde.ra (lookup cache.old)) row.entry.rules.now in
+        Put out.old at (line_bytes fde w.start (formatted cfa ++ ran_rules fde.family fde.ra (lookup cache.old) w.rules) moved) out.new result }
+    ensures sees { Remembers cache.old (rules_in row.entry.rules.now) cache.new }
 {
-    let start = row.start();
-    let p = put_start(out, at, fde, start);
-    let p = put_formatted(out, p, new_cfa(fde.family, row.cfa(), changed));
-    let p = put_rules(out, p, row.rules(), fde, cache);
-    let p = put_default(out, p, fde, start, moved);
+    let default = new_default(fde, row, cache);
+    let p = put_start(out, at, fde, row.start());
+    let p = put_formatted(out, p, cfa);
+    let p = put_rules(out, p, row.rules, fde, cache);
+    let p = put_formatted(out, p, default);
     put_byte(out, p, b'\n')
 }
 
 // One row: its line, unless nothing is written, and what is last seen after it.
-fn put_row(out: &mut [u8], at: usize, row: RowWords, fde: Fde, state: RowState) -> Placed
-    requires { state.rules.count + fresh (lookup state.rules) (row_of row).rules ≤ 64 }
-    ensures writes { Put out.old at (ran_row fde (cfa_of state) (lookup state.rules) (row_of row.entry)) out.new result.at }
-    ensures goes { After state (row_of row.entry) result.state }
+fn put_row(out: &mut [u8], at: usize, row: RowWords, fde: Fde, mut state: RowState) -> Placed
+    requires room { state.rules.count + fresh (lookup state.rules) (rules_in row.rules.now) ≤ 64 }
+    requires once { T (once (registers (rules_in row.rules.now))) }
+    ensures writes { Put out.old at (ran_row fde (cfa_of state) (lookup state.rules) (row_is row.entry)) out.new result.at }
+    ensures goes { After state (row_is row.entry) result.state }
 {
-    let cfa = row.cfa();
-    let changed = state.cfa != Some(cfa);
-    let already = new_cfa(fde.family, cfa, changed).is_some();
-    let mut rules = state.rules;
-    let scan = scan_rules(row.rules(), fde, &mut rules, already);
-    let mut p = at;
-    if scan.written {
-        p = put_line(out, at, row, fde, changed, &state.rules, scan.ra_written);
+    let cfa = new_cfa(fde.family, row.cfa(), state.cfa);
+    state.cfa = Some(row.cfa());
+    if cfa.is_none() && !any_new(row.rules, fde, &state.rules) {
+        state.rules.remember_all(row.rules);
+        return Placed { at, state };
     }
-    let cfa = Some(cfa);
-    let state = RowState { cfa, rules };
-    Placed { at: p, state }
+    let at = put_line(out, at, row, fde, cfa, &mut state.rules);
+    Placed { at, state }
 }
 
 // ---- all rows
@@ -300,7 +321,7 @@ fn put_rows(out: &mut [u8], at: usize, body: Body, fde: Fde) -> usize
 {
     let mut p = at;
     let mut state = RowState::start();
-    for row in body.rows() {
+    for row in body.rows {
         let placed = put_row(out, p, row, fde, state);
         p = placed.at;
         state = placed.state;

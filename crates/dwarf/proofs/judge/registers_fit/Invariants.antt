@@ -1,5 +1,5 @@
 -- `registers_fit`: the loop of `MetLeft`: registers met and those left to meet are those of the body.
-use Rattle.dwarf.specs.Cache.{rows_left}
+use Rattle.dwarf.specs.Slices.{rows_left}
 use Rattle.dwarf.proofs.Meeting.{MetLeft}
 use Rattle.dwarf.proofs.judge.registers_fit.Given as goal
 

@@ -1,7 +1,16 @@
--- `new_cfa`: nothing where it did not change.
-use Rattle.dwarf.specs.Cache.{formatted}
+-- `new_cfa`: nothing where it is the one last seen.
+use Rattle.std.proofs.Common.{◌≡◌, refl, sym, ap, ◌∙◌, not, Option, Some, None}
+use Rattle.std.specs.Option.{option_eq}
+use Rattle.dwarf.specs.declared.CfaRule.{CfaRule}
+use Rattle.dwarf.specs.contracts.CfaRulePartialEq.TheImpl.{eq-value}
+use Rattle.dwarf.specs.Dwarf.{cfa_differs}
+use Rattle.dwarf.specs.Cache.{cfa_if, formatted}
 use Rattle.dwarf.proofs.write.new_cfa.Goals as goal
 
-pub returns : goal.returns
+changed_is : (o : Option CfaRule) (x : CfaRule) → not (option_eq eq-value.it o (Some x)) ≡ cfa_differs (cfa_if o) x
+changed_is None x = refl
+changed_is (Some y) x = refl
+
+pub returns-then-eq : goal.returns-then-eq
 unfolding formatted
-returns c = rw c.if-changed.false
+returns-then-eq c = rw (sym (changed_is c.args.last c.args.cfa) ∙ ap not (sym c.if-eq.ensures))

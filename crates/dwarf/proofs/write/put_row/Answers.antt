@@ -1,40 +1,35 @@
--- `put_row`: the first pass tells whether there is a line, and what is seen after it.
-use Rattle.std.proofs.Common.{◌≡◌, refl, arith, ◌∙◌, not, Option, Some, None}
-use Rattle.std.specs.Option.{option_eq}
-use Rattle.dwarf.specs.declared.CfaRule.{CfaRule}
-use Rattle.dwarf.specs.contracts.CfaRulePartialEq.TheImpl.{eq-value}
-use Rattle.dwarf.specs.Dwarf.{cfa_differs}
-use Rattle.dwarf.specs.Cache.{cfa_if, row_of, rules_left}
-use Rattle.dwarf.proofs.Forms.{put_taken, put_left, some_any}
-use Rattle.dwarf.proofs.Rows.{row_done, row_after}
+-- `put_row`: a line where its CFA is new, or one of its rules is written.
+use Rattle.std.proofs.Common.{◌≡◌, refl, sym, ◌∙◌, Bool, true, false, ◌||◌, arith}
+use Rattle.text.specs.Tests.{any}
+use Rattle.text.specs.Text.Laws.{put_as, put_none}
+use Rattle.dwarf.specs.Cache.{cfa_of, lookup, formatted}
+use Rattle.dwarf.proofs.Forms.{some_any}
+use Rattle.dwarf.proofs.Rows.{row_left, row_put}
+use Rattle.dwarf.proofs.write.put_row.Goals.{else-is_none-via-then-is_none+else-not-any_new, else-is_none-via-else-is_none}
 use Rattle.dwarf.proofs.write.put_row.Goals as goal
 
-changed_is : (o : Option CfaRule) (x : CfaRule) → not (option_eq eq-value.it o (Some x)) ≡ cfa_differs (cfa_if o) x
-changed_is None x = refl
-changed_is (Some y) x = refl
+first : (t u : Bool) → t ≡ true → (t || u) ≡ true
+first t u e = rw e
 
-pub returns-then-scan-clause-writes : goal.returns-then-scan-clause-writes
-returns-then-scan-clause-writes c =
-    let s = c.args in
-    row_done s.fde (row_of s.row) s.state c.cfa-cfa.result (rules_left c.rules.result) c.ne-changed.result c.is_some-already.result _ c.scan_rules-scan.result
-    c.cfa-cfa.ensures c.rules.ensures (c.ne-changed.ensures ∙ changed_is s.state.cfa c.cfa-cfa.result)
-    (c.is_some-already.ensures ∙ some_any c.new_cfa.result _ c.new_cfa.ensures) c.scan_rules-scan.ensures
-    (put_taken _ _ _ c.if-scan.true refl c.put_line-p.ensures)
+second : (t u : Bool) → u ≡ true → (t || u) ≡ true
+second true u e = refl
+second false u e = e
 
-pub returns-else-scan-clause-writes : goal.returns-else-scan-clause-writes
-returns-else-scan-clause-writes c =
-    let s = c.args in
-    row_done s.fde (row_of s.row) s.state c.cfa-cfa.result (rules_left c.rules.result) c.ne-changed.result c.is_some-already.result _ c.scan_rules-scan.result
-    c.cfa-cfa.ensures c.rules.ensures (c.ne-changed.ensures ∙ changed_is s.state.cfa c.cfa-cfa.result)
-    (c.is_some-already.ensures ∙ some_any c.new_cfa.result _ c.new_cfa.ensures) c.scan_rules-scan.ensures
-    (put_left _ _ c.if-scan.false (omega arith) (omega arith))
+pub returns-then-not-any_new-clause-writes : goal.returns-then-not-any_new-clause-writes
+returns-then-not-any_new-clause-writes c =
+    let a = c.args in
+    let new = rw c.cfa.ensures at c.new_cfa-cfa.ensures in
+    put_as (put_none (omega arith) (omega arith))
+    (row_left a.fde (cfa_of a.state) (lookup a.state.rules) a.row.head.now a.row.rules.now (formatted c.new_cfa-cfa.result) new c.requires.once
+    (sym (some_any c.new_cfa-cfa.result _ refl) ∙ c.if-is_none.ensures) (sym c.if-not-any_new.ensures))
 
-pub returns-then-scan-clause-goes : goal.returns-then-scan-clause-goes
-returns-then-scan-clause-goes c =
-    row_after c.args.fde (row_of c.args.row) c.args.state c.cfa-cfa.result (rules_left c.rules.result) c.ne-changed.result c.is_some-already.result _ c.scan_rules-scan.result
-    c.cfa-cfa.ensures c.rules.ensures c.scan_rules-scan.ensures
-
-pub returns-else-scan-clause-goes : goal.returns-else-scan-clause-goes
-returns-else-scan-clause-goes c =
-    row_after c.args.fde (row_of c.args.row) c.args.state c.cfa-cfa.result (rules_left c.rules.result) c.ne-changed.result c.is_some-already.result _ c.scan_rules-scan.result
-    c.cfa-cfa.ensures c.rules.ensures c.scan_rules-scan.ensures
+pub returns-clause-writes : goal.returns-clause-writes
+returns-clause-writes c =
+    let a = c.args in
+    let new = rw c.cfa.ensures at c.new_cfa-cfa.ensures in
+    put_as c.put_line-at.ensures.puts
+    (row_put a.fde (cfa_of a.state) (lookup a.state.rules) a.row.head.now a.row.rules.now (formatted c.new_cfa-cfa.result) new c.requires.once
+    (elim c.else-is_none.branch [
+      | else-is_none-via-then-is_none+else-not-any_new w ↦ second (any (formatted c.new_cfa-cfa.result)) _ (sym w.if-not-any_new.ensures)
+      | else-is_none-via-else-is_none w ↦ first _ _ (sym (some_any c.new_cfa-cfa.result _ refl) ∙ w.if-is_none.ensures)
+    ]))

@@ -1,5 +1,5 @@
 -- `put_rows`: the loop of `RowsLeft`: the lines of the rows left are what is left to write.
-use Rattle.dwarf.specs.Cache.{rows_left}
+use Rattle.dwarf.specs.Slices.{rows_left}
 use Rattle.dwarf.proofs.Loops.{RowsLeft}
 use Rattle.dwarf.proofs.write.put_rows.Given as goal
 

@@ -1,20 +1,34 @@
--- `put_rules`: a turn puts the next rule.
-use Rattle.std.proofs.Common.{sym, ap, ◌∙◌, Bool, cond, []}
-use Rattle.text.specs.Text.Laws.{put_as, left_put, left_none}
-use Rattle.dwarf.specs.Dwarf.{rule_bytes}
-use Rattle.dwarf.specs.Cache.{lookup, rules_left}
-use Rattle.dwarf.specs.Index.{row_rules, ran_row_lem}
+-- `put_rules`: a turn puts the next rule, where it differs.
+use Rattle.std.proofs.Common.{sym, arith}
+use Rattle.text.specs.Text.Laws.{left_all}
+use Rattle.dwarf.proofs.Loops.{rules_all, rule_room, rules_done, put_turn, put_done}
+use Rattle.dwarf.proofs.Forms.{put_taken, put_left}
+use Rattle.dwarf.proofs.Slices.{next_rule, no_rule}
+use Rattle.dwarf.proofs.write.put_rules.Goals.{then-remember, else-remember}
 use Rattle.dwarf.proofs.write.put_rules.Goals as goal
 
-pub loop-rule-preserved : goal.loop-rule-preserved
-unfolding row_rules
-loop-rule-preserved c =
-    let f = c.args.fde in
-    left_put (rw c.in-Some.ensures.steps at c.loop-rule.invariant)
-    (put_as c.put_formatted-p.ensures (c.new_rule.ensures ∙ ap (λ (t : Bool). cond t (rule_bytes f.family f.ra c.in-Some.rule) []) c.differs-changed.ensures))
+pub loop-words-init : goal.loop-words-init
+loop-words-init c = record { rules = rules_all _ _; text = left_all (omega arith) (omega arith) }
 
-pub returns : goal.returns
-unfolding row_rules
-returns c =
-    put_as (left_none (rw c.in-None.ensures.steps.0 at c.loop-rule.invariant))
-    (sym (ran_row_lem c.args.fde.family c.args.fde.ra (lookup c.args.cache.now) (rules_left c.args.rules) c.requires))
+pub remember-requires : goal.remember-requires
+remember-requires c = rw c.from-rule.ensures (rule_room c.loop-words.invariant.rules (next_rule _ _ c.loop-words-test.true) c.requires)
+
+pub loop-words-preserved : goal.loop-words-preserved
+loop-words-preserved c =
+    let l = c.loop-words.invariant in
+    let next = next_rule _ _ c.loop-words-test.true in
+    let r = rw c.from-rule.ensures at c.remember.ensures in
+    elim c.if-remember.branch [
+      | then-remember w ↦
+          let differs = rw c.from-rule.ensures at w.if-remember.ensures in
+          rw (w.out-is, w.p-is) (put_turn l next r.sees r.counts (put_taken _ _ _ (sym differs.changes) (rw c.from-rule.ensures at w.format_rule.ensures) w.put_formatted-p.ensures))
+      | else-remember w ↦
+          let same = rw c.from-rule.ensures at w.if-remember.ensures in
+          rw (w.out-is, w.p-is) (put_turn l next r.sees r.counts (put_left _ _ (sym same.changes) (omega arith) (omega arith)))
+    ]
+
+pub returns-clause-puts : goal.returns-clause-puts
+returns-clause-puts c = put_done c.loop-words.invariant (no_rule _ _ c.loop-words-test.false)
+
+pub returns-clause-sees : goal.returns-clause-sees
+returns-clause-sees c = rules_done c.loop-words.invariant.rules (no_rule _ _ c.loop-words-test.false)

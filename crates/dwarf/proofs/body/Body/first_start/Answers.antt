@@ -4,8 +4,8 @@ use Rattle.dwarf.proofs.body.Body.first_start.Goals as goal
 
 pub returns-in-Some : goal.returns-in-Some
 unfolding first_start
-returns-in-Some c = rw (← c.rows.ensures, c.in-Some.ensures.steps) c.start.ensures
+returns-in-Some c = rw (← c.args.self.rows_are, c.in-Some.ensures.steps) c.start.ensures
 
 pub returns-in-None : goal.returns-in-None
 unfolding first_start
-returns-in-None c = rw (← c.rows.ensures, c.in-None.ensures.steps.0)
+returns-in-None c = rw (← c.args.self.rows_are, c.in-None.ensures.steps.0)

@@ -1,43 +1,43 @@
--- `next`: one step of the definitions over the words.
-use Rattle.std.proofs.Common.{length, ap, arith, refl, ◌≤◌, T}
-use Rattle.text.specs.Tests.{and_l, and_r}
-use Rattle.dwarf.specs.Dwarf.{row_fits, rows_from}
-use Rattle.dwarf.specs.Index.{rows_step, rows_fit_step, row_few, row_bound}
+-- `next`: the first row, and those behind it.
+use Rattle.std.proofs.Common.{◌≡◌, ◌∷◌, ◌-◌, drop, length, ap, arith, refl}
+use Rattle.text.specs.Tests.{and_r}
+use Rattle.dwarf.specs.Dwarf.{next_row, rows_from}
+use Rattle.dwarf.specs.Slices.{IsRow, row_is, row_fits_in}
+use Rattle.dwarf.proofs.Slices.{fit_cut, fit_more, rows_more, is_there}
+use Rattle.dwarf.proofs.body.RowsIterator.next.Goals.{After-unwrap}
 use Rattle.dwarf.proofs.body.RowsIterator.next.Goals as goal
-use Rattle.dwarf.proofs.body.RowsIterator.next.Goals.{Else-self-eq0, After-rule_count}
 
 pub returns-then-self-eq0-clause-steps : goal.returns-then-self-eq0-clause-steps
 unfolding rows_from
 returns-then-self-eq0-clause-steps c = rw c.if-self-eq0.true (refl, refl)
 
-fits : (c : Else-self-eq0) → T (row_fits c.args.self.now.words.now c.args.self.now.at)
-fits c = let s = c.args.self.now in and_l (row_fits s.words.now s.at) _ (rw (rows_fit_step s.words.now s.left s.at (omega arith)) at s.fits)
+pub unwrap-requires : goal.unwrap-requires
+unwrap-requires c =
+    let s = c.args.self.now in
+    is_there c.split.result (λ none.
+    let short = rw none at c.split.ensures in
+    rw (fit_cut s.words.now s.left (omega arith) short) at s.fit)
 
-few : (c : After-rule_count) → c.rule_count.result ≤ 64
-few c = let s = c.args.self.now in omega (arith, row_few s.words.now s.at (fits (goal.at.overflow_mul-self c).Else-self-eq0), c.rule_count.ensures)
+module _ (c : After-unwrap) where
+  row : IsRow c.args.self.now.words.now c.unwrap.result.0.head.now c.unwrap.result.0.rules.now
+  row = (rw c.unwrap.ensures at c.split.ensures).1
 
-pub invariant_of-row : goal.invariant_of-row
-invariant_of-row c = record { near = omega (arith, c.args.self.now.near); fits = fits (goal.at.invariant_of-row c).Else-self-eq0 }
+  behind : c.unwrap.result.1.now ≡ drop (next_row c.args.self.now.words.now 0) c.args.self.now.words.now
+  behind = (rw c.unwrap.ensures at c.split.ensures).2
 
-pub overflow_mul-self : goal.overflow_mul-self
-overflow_mul-self c = record { fits = omega (arith, few c) }
-
-pub overflow_add-self-2 : goal.overflow_add-self-2
-overflow_add-self-2 c = record { fits = omega (arith, c.args.self.now.near, few c) }
+  steps : rows_from c.args.self.now.words.now c.args.self.now.left 0 ≡ row_is c.unwrap.result.0 ∷ rows_from c.unwrap.result.1.now (c.args.self.now.left - 1) 0
+  steps = rw behind (rows_more c.args.self.now.words.now c.args.self.now.left (omega arith) row)
 
 pub invariant_of-self : goal.invariant_of-self
 invariant_of-self c =
     let s = c.args.self.now in
-    let h = fits (goal.at.invariant_of-self c).Else-self-eq0 in
-    rw c.rule_count.ensures (record {
-      near = row_bound s.words.now s.at s.left h (omega arith) s.near;
-      fits = and_r (row_fits s.words.now s.at) _ (rw (rows_fit_step s.words.now s.left s.at (omega arith)) at s.fits);
-    })
+    let w = (goal.at.invariant_of-self c).After-unwrap in
+    let f = rw (fit_more s.words.now s.left (omega arith) (row w) (rw c.unwrap.ensures at c.split.ensures).0) at s.fit in
+    record { fit = rw (behind w) (and_r (row_fits_in c.unwrap.result.0.head.now c.unwrap.result.0.rules.now) _ f) }
 
 pub returns-clause-steps : goal.returns-clause-steps
-returns-clause-steps c = let s = c.args.self.now in rw c.rule_count.ensures (rows_step s.words.now s.left s.at (omega arith))
+returns-clause-steps c = steps (goal.at.returns-clause-steps c).After-unwrap
 
 pub returns-clause-goes : goal.returns-clause-goes
 returns-clause-goes c =
-    let s = c.args.self.now in
-    record { on = λ _. (tt, tt, rw c.rule_count.ensures (omega (arith, ap length (rows_step s.words.now s.left s.at (omega arith))))); keeps = tt; rests = λ _. tt }
+    record { on = λ _. (tt, tt, omega (arith, ap length (steps (goal.at.returns-clause-goes c).After-unwrap))); keeps = tt; rests = λ _. tt }

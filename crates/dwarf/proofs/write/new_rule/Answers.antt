@@ -1,7 +1,0 @@
--- `new_rule`: nothing where it did not change.
-use Rattle.dwarf.specs.Cache.{formatted}
-use Rattle.dwarf.proofs.write.new_rule.Goals as goal
-
-pub returns : goal.returns
-unfolding formatted
-returns c = rw c.if-changed.false
