@@ -15,6 +15,7 @@ use Rattle.entry.specs.declared.Last.{Last}
 use Rattle.entry.specs.Entry.Laws.{Accepted, accepted}
 use Rattle.dwarf.specs.declared.RegisterRule.{RegisterRule}
 use Rattle.dwarf.specs.declared.CfaRule.{CfaRule}
+use Rattle.dwarf.specs.declared.CfaRule.TheVariants.{RegisterPlus, Expression}
 use Rattle.dwarf.specs.Dwarf.{twos, Row, rows, load_address, last_end, fde_of, dwarf_layout, dwarf_skipped, dwarf_reach, Seen, never, seen}
 use Rattle.dwarf.specs.Dwarf.{differs, CfaSeen, no_cfa, last_cfa, cfa_differs, dwarf_judged, row_count}
 use Rattle.dwarf.specs.Dwarf.{rows_fit, form_bytes, named_bytes, rule_bytes, cfa_bytes, ra_bytes, default_bytes, start_bytes}
@@ -130,12 +131,12 @@ rule_text_lem f ra x = forms_text f x (cond (eqb x.register ra) (ascii ".ra") (c
 
 cfa_text_lem : (f : ℕ) (x : CfaRule) → rules_text (cfa_rules f x) ≡ cfa_bytes f x
 unfolding cfa_rules cfa_bytes cfa_plus_rules rules_text rule_text form_text any
-cfa_text_lem f x = go (eqb x.kind 0) (cfi_name f x.register) (twos x.offset)
+cfa_text_lem f (RegisterPlus r o) = go (cfi_name f r) (twos o)
   where
-    go : (t : Bool) (n : Bytes) (z : ℤ) → rules_text (cond t (cfa_plus_rules n z) []) ≡ cond (t && any n) (ascii " .cfa: " ++ n ++ (ascii " " ++ signed z ++ ascii " +")) []
-    go true [] z = refl
-    go true (c ∷ n) z = append-nil (rule_text (rule cfa (register_plus (c ∷ n) z)))
-    go false n z = refl
+    go : (n : Bytes) (z : ℤ) → rules_text (cfa_plus_rules n z) ≡ cond (any n) (ascii " .cfa: " ++ n ++ (ascii " " ++ signed z ++ ascii " +")) []
+    go [] z = refl
+    go (c ∷ n) z = append-nil (rule_text (rule cfa (register_plus (c ∷ n) z)))
+cfa_text_lem f Expression = refl
 
 ra_text_lem : (f ra : ℕ) → rules_text (ra_rules f ra) ≡ ra_bytes f ra
 unfolding ra_rules ra_bytes name_form named rules_text rule_text form_text any
@@ -299,7 +300,8 @@ plus_ok (c ∷ n) z h = both (register_ok (c ∷ n)) true h tt
 
 cfa_ok : (f : ℕ) (x : CfaRule) → T (all rule_ok (cfa_rules f x))
 unfolding cfa_rules
-cfa_ok f x = either (all rule_ok) (eqb x.kind 0) (cfa_plus_rules (cfi_name f x.register) (twos x.offset)) [] (plus_ok _ _ (cfi_ok f x.register)) tt
+cfa_ok f (RegisterPlus r o) = plus_ok (cfi_name f r) (twos o) (cfi_ok f r)
+cfa_ok f Expression = tt
 
 ra_ok : (f ra : ℕ) → T (all rule_ok (ra_rules f ra))
 unfolding ra_rules

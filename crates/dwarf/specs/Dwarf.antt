@@ -11,6 +11,7 @@ use Rattle.entry.specs.declared.Fate.TheVariants.{Skip, Write}
 use Rattle.entry.specs.Entry.{Entry, Judged, comes_to, word}
 use Rattle.dwarf.specs.declared.RegisterRule.{RegisterRule}
 use Rattle.dwarf.specs.declared.CfaRule.{CfaRule}
+use Rattle.dwarf.specs.declared.CfaRule.TheVariants.{RegisterPlus, Expression}
 use Rattle.dwarf.specs.declared.Fde.{Fde}
 
 -- ---- rows from words
@@ -36,13 +37,9 @@ unfoldable pub rules_from : List ℕ → ℕ → ℕ → List RegisterRule
 rules_from ws zero a = []
 rules_from ws (suc n) a = rule_at ws a ∷ rules_from ws n (a + 4)
 
--- the CFA of the row at word a: kind, register, offset; an expression (kind 1) uses neither
+-- the CFA of the row at word a: register and offset (kind 0), or an expression (kind 1), which uses neither
 unfoldable pub cfa_at : List ℕ → ℕ → CfaRule
-cfa_at ws a = record {
-  kind = word ws (a + 4);
-  register = cond (eqb (word ws (a + 4)) 0) (word ws (a + 5)) 0;
-  offset = cond (eqb (word ws (a + 4)) 0) (wide ws (a + 6)) 0;
-}
+cfa_at ws a = cond (eqb (word ws (a + 4)) 0) (RegisterPlus (word ws (a + 5)) (wide ws (a + 6))) Expression
 
 -- start, end, CFA, rules
 pub record Row : Type 0 where
@@ -196,9 +193,8 @@ rule_bytes f ra x = named_bytes (cond (eqb x.register ra) (ascii ".ra") (cfi_nam
 
 -- " .cfa: R N +"; an expression writes nothing
 unfoldable pub cfa_bytes : ℕ → CfaRule → List ℕ
-cfa_bytes f x =
-    cond (eqb x.kind 0 && any (cfi_name f x.register))
-    (ascii " .cfa: " ++ cfi_name f x.register ++ (ascii " " ++ signed (twos x.offset) ++ ascii " +")) []
+cfa_bytes f (RegisterPlus r o) = cond (any (cfi_name f r)) (ascii " .cfa: " ++ cfi_name f r ++ (ascii " " ++ signed (twos o) ++ ascii " +")) []
+cfa_bytes f Expression = []
 
 -- families 3 to 9 add " .ra: Q" with the return register's name, if any
 unfoldable pub ra_bytes : ℕ → ℕ → List ℕ
@@ -240,10 +236,17 @@ pub data CfaSeen : Type 0 where
   no_cfa : CfaSeen
   last_cfa : CfaRule → CfaSeen
 
+-- two CFAs are one
+abbrev pub same_cfa : CfaRule → CfaRule → Bool
+same_cfa (RegisterPlus r o) (RegisterPlus q p) = eqb r q && eqb o p
+same_cfa (RegisterPlus r o) Expression = false
+same_cfa Expression (RegisterPlus q p) = false
+same_cfa Expression Expression = true
+
 -- the CFA is treated alike
 abbrev pub cfa_differs : CfaSeen → CfaRule → Bool
 cfa_differs no_cfa x = true
-cfa_differs (last_cfa y) x = not (eqb y.kind x.kind && (eqb y.register x.register && eqb y.offset x.offset))
+cfa_differs (last_cfa y) x = not (same_cfa y x)
 
 -- register r now has kind k and value v
 abbrev pub remembered : (ℕ → Seen) → ℕ → ℕ → ℕ → (ℕ → Seen)

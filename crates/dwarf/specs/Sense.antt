@@ -8,7 +8,8 @@ use Rattle.lines.specs.Lines.{Bytes, Form, register, register_plus, cfa_plus, at
 use Rattle.entry.specs.Entry.{word}
 use Rattle.dwarf.specs.declared.RegisterRule.{RegisterRule}
 use Rattle.dwarf.specs.declared.CfaRule.{CfaRule}
-use Rattle.dwarf.specs.Dwarf.{twos, Row, rows, load_address, first_start}
+use Rattle.dwarf.specs.declared.CfaRule.TheVariants.{RegisterPlus, Expression}
+use Rattle.dwarf.specs.Dwarf.{twos, same_cfa, Row, rows, load_address, first_start}
 
 -- ---- the last earlier row
 
@@ -40,7 +41,7 @@ rule_differs (y ∷ ys) x = not (eqb y.kind x.kind && eqb y.value x.value)
 -- and so does a CFA
 unfoldable pub cfa_changes : List CfaRule → CfaRule → Bool
 cfa_changes [] x = true
-cfa_changes (y ∷ ys) x = not (eqb y.kind x.kind && (eqb y.register x.register && eqb y.offset x.offset))
+cfa_changes (y ∷ ys) x = not (same_cfa y x)
 
 -- ---- rules: none where a name lacks. An empty name is none.
 
@@ -72,7 +73,8 @@ cfa_plus_rules (c ∷ n) z = rule cfa (register_plus (c ∷ n) z) ∷ []
 
 -- an expression has no rule
 unfoldable pub cfa_rules : ℕ → CfaRule → List Rule
-cfa_rules f x = cond (eqb x.kind 0) (cfa_plus_rules (cfi_name f x.register) (twos x.offset)) []
+cfa_rules f (RegisterPlus r o) = cfa_plus_rules (cfi_name f r) (twos o)
+cfa_rules f Expression = []
 
 -- the default of families 3 to 9
 unfoldable pub ra_rules : ℕ → ℕ → List Rule

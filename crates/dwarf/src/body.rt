@@ -154,18 +154,9 @@ impl<'a> RowWords<'a> {
         ensures { result ≡ (row_of self.entry.head.now self.entry.rules.now).cfa }
     {
         let [_, _, _, _, kind, register, low, high, _] = *self.head;
-        if kind == CFA_REGISTER {
-            let offset = wide(low, high);
-            return CfaRule {
-                kind,
-                register,
-                offset,
-            };
-        }
-        CfaRule {
-            kind,
-            register: 0,
-            offset: 0,
+        match kind {
+            CFA_REGISTER => CfaRule::RegisterPlus(register, wide(low, high)),
+            _ => CfaRule::Expression,
         }
     }
 }

@@ -27,12 +27,11 @@ pub struct RegisterRule {
     pub value: u64,
 }
 
-// A row's CFA: register + offset (kind 0), or an expression (kind 1), with register and offset 0. The kind stays a number, as in a rule.
+// A row's CFA: a register and an offset, or an expression, of which nothing is kept.
 #[derive(Clone, Copy, PartialEq, Eq)]
-pub struct CfaRule {
-    pub kind: u32,
-    pub register: u32,
-    pub offset: u64,
+pub enum CfaRule {
+    RegisterPlus(u32, u64),
+    Expression,
 }
 
 // What holds for all rows: CPU family, return register, load address, first start, and the length up to the last end.
@@ -53,7 +52,7 @@ pub struct Registers {
     pub ghost few: { count ≤ 64 },
 }
 
-// At most 64 registers, with their count: the rule last seen of each.
+// At most 64 registers, with their count: the rule last seen of each. Arrays that go by value from row to row are document 01's form, and there is no heap.
 #[derive(Clone, Copy)]
 pub struct RuleCache {
     pub register: [u32; 64],

@@ -1,5 +1,5 @@
 // The lines of a DWARF entry, one for each row that has something new: the CFA's rule and the registers' rules that differ from those last seen.
-// Where its CFA is not new, a row's rules are looked at twice: first for whether one of them is written.
+// The rules of a row whose CFA is not written are looked at twice: first for whether one of them is.
 ghost use Rattle.std.specs.Prelude.{◌≡◌, [], ◌++◌, ◌+◌, ◌<◌, ◌≤◌, cond, get_or, take, T, ◌==◌, position};
 ghost use Rattle.std.specs.List.{list_any};
 ghost use Rattle.text.specs.Text.{Put};
@@ -10,7 +10,7 @@ ghost use Rattle.dwarf.specs.Cache.{lookup, cfa_if, cfa_of, newly, fresh, Forms,
 ghost use Rattle.dwarf.specs.Slices.{rules_in, row_of, row_is, new_in, moved_in};
 
 use crate::body::{
-    Body, CFA_REGISTER, OFFSET, REGISTER, REGISTER_VALUES, RowWords, RuleWords, SAME, VALUE_OFFSET,
+    Body, OFFSET, REGISTER, REGISTER_VALUES, RowWords, RuleWords, SAME, VALUE_OFFSET,
 };
 use crate::{CfaRule, Fde, Placed, RegisterRule, RowState, RuleCache};
 use lines::{put_init, put_later};
@@ -151,13 +151,16 @@ fn format_rule(fde: Fde, rule: RegisterRule) -> Option<Rule>
 fn format_cfa(family: u32, cfa: CfaRule) -> Option<Rule>
     ensures { formatted result ≡ cfa_bytes family cfa }
 {
-    if (cfa.kind == CFA_REGISTER) & has_cfi_name(family, cfa.register) {
-        let reg = Reg::Cfi(family, cfa.register);
-        let form = Form::RegisterPlus(reg, cfa.offset.cast_signed());
-        let name = cfa_name();
-        return Some(Rule { name, form });
+    let CfaRule::RegisterPlus(register, offset) = cfa else {
+        return None;
+    };
+    if !has_cfi_name(family, register) {
+        return None;
     }
-    None
+    let reg = Reg::Cfi(family, register);
+    let form = Form::RegisterPlus(reg, offset.cast_signed());
+    let name = cfa_name();
+    Some(Rule { name, form })
 }
 
 // Where the return address is in a register, families 3 to 9: " .ra: Q".
