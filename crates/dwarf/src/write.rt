@@ -239,7 +239,8 @@ fn put_rules(
     let mut p = at;
     for words in rules {
         let rule = RegisterRule::from(*words);
-        if cache.remember(rule) {
+        let changed = cache.remember(rule);
+        if changed {
             p = put_formatted(out, p, format_rule(fde, rule));
         }
     }

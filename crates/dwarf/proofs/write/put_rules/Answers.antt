@@ -1,30 +1,28 @@
 -- `put_rules`: a turn puts the next rule, where it differs.
-use Rattle.std.proofs.Common.{sym, arith}
+use Rattle.std.proofs.Common.{sym, ◌∙◌, arith}
 use Rattle.text.specs.Text.Laws.{left_all}
 use Rattle.dwarf.proofs.Loops.{rules_all, rule_room, rules_done, put_turn, put_done}
 use Rattle.dwarf.proofs.Forms.{put_taken, put_left}
 use Rattle.dwarf.proofs.Slices.{next_rule, no_rule}
-use Rattle.dwarf.proofs.write.put_rules.Goals.{then-remember, else-remember}
+use Rattle.dwarf.proofs.write.put_rules.Goals.{then-changed, else-changed}
 use Rattle.dwarf.proofs.write.put_rules.Goals as goal
 
 pub loop-words-init : goal.loop-words-init
 loop-words-init c = record { rules = rules_all _ _; text = left_all (omega arith) (omega arith) }
 
-pub remember-requires : goal.remember-requires
-remember-requires c = rw c.from-rule.ensures (rule_room c.loop-words.invariant.rules (next_rule _ _ c.loop-words-test.true) c.requires)
+pub remember-changed-requires : goal.remember-changed-requires
+remember-changed-requires c = rw c.from-rule.ensures (rule_room c.loop-words.invariant.rules (next_rule _ _ c.loop-words-test.true) c.requires)
 
 pub loop-words-preserved : goal.loop-words-preserved
 loop-words-preserved c =
     let l = c.loop-words.invariant in
     let next = next_rule _ _ c.loop-words-test.true in
-    let r = rw c.from-rule.ensures at c.remember.ensures in
-    elim c.if-remember.branch [
-      | then-remember w ↦
-          let differs = rw c.from-rule.ensures at w.if-remember.ensures in
-          rw (w.out-is, w.p-is) (put_turn l next r.sees r.counts (put_taken _ _ _ (sym differs.changes) (rw c.from-rule.ensures at w.format_rule.ensures) w.put_formatted-p.ensures))
-      | else-remember w ↦
-          let same = rw c.from-rule.ensures at w.if-remember.ensures in
-          rw (w.out-is, w.p-is) (put_turn l next r.sees r.counts (put_left _ _ (sym same.changes) (omega arith) (omega arith)))
+    let r = rw c.from-rule.ensures at c.remember-changed.ensures in
+    elim c.if-changed.branch [
+      | then-changed w ↦
+          rw (w.out-is, w.p-is) (put_turn l next r.sees r.counts (put_taken _ _ _ (sym r.changes ∙ w.if-changed.true) (rw c.from-rule.ensures at w.format_rule.ensures) w.put_formatted-p.ensures))
+      | else-changed w ↦
+          rw (w.out-is, w.p-is) (put_turn l next r.sees r.counts (put_left _ _ (sym r.changes ∙ w.if-changed.false) (omega arith) (omega arith)))
     ]
 
 pub returns-clause-puts : goal.returns-clause-puts
