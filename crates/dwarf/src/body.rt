@@ -16,7 +16,8 @@
 //     3 register       register       is that register
 //     4 other          -              cannot be written; it is remembered all the same
 ghost use Rattle.std.specs.Prelude.{◌≡◌, ◌^◌, ◌+◌, ◌*◌, ◌<◌, ◌≤◌, drop, length, MatchOption, T};
-ghost use Rattle.dwarf.specs.Dwarf.{wide, used_value, rows_from, rows as rows_of, row_count, load_address, first_start, last_end, fde_of, next_row, rows_fit, dwarf_layout};
+ghost use Rattle.dwarf.specs.Dwarf.{wide, used_value, rows_from, rows as rows_of, row_count, next_row, rows_fit, dwarf_layout};
+ghost use Rattle.dwarf.specs.Dwarf.{load_address, first_start, last_end, fde_of};
 
 use crate::{CfaRule, Fde, RegisterRule};
 use entry::word;
@@ -121,7 +122,8 @@ impl<'a> RowWords<'a> {
     // The row that the words begin with, and the words behind it; none where they are too few.
     pub(crate) fn split(words: &'a [u32]) -> Option<(RowWords<'a>, &'a [u32])>
         ensures { MatchOption result (length words.now < next_row words.now 0)
-            (λ p. (next_row words.now 0 ≤ length words.now) × IsRow words.now p.0.head.now p.0.rules.now × (p.1.now ≡ drop (next_row words.now 0) words.now)) }
+            (λ p. (next_row words.now 0 ≤ length words.now)
+            × IsRow words.now p.0.head.now p.0.rules.now × (p.1.now ≡ drop (next_row words.now 0) words.now)) }
     {
         let (head, behind) = words.split_first_chunk::<ROW_WORDS>()?;
         let [.., count] = *head;

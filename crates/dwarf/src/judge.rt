@@ -1,7 +1,8 @@
 // What becomes of a DWARF entry: refused by 4, skipped, refused by 6, or written.
 ghost use Rattle.std.specs.Prelude.{◌≡◌, ◌&&◌, cond, [], ◌∷◌, false, eqb, leb, ltb, MatchOption};
 ghost use Rattle.std.specs.List.{list_all, list_any};
-ghost use Rattle.dwarf.specs.Dwarf.{rows, registers, once, cfa_fits, rows_fit, dwarf_layout, dwarf_skipped, dwarf_reach, dwarf_judged, any_below, rules_of, distinct};
+ghost use Rattle.dwarf.specs.Dwarf.{rows, registers, once, cfa_fits, rows_fit, dwarf_layout, rules_of, distinct};
+ghost use Rattle.dwarf.specs.Dwarf.{dwarf_skipped, dwarf_reach, dwarf_judged, any_below};
 ghost use Rattle.dwarf.specs.Cache.{fits, Known};
 ghost use Rattle.dwarf.specs.Slices.{rules_in, fits_in, names_in, row_fits_in, row_is, rows_left};
 

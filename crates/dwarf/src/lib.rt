@@ -52,7 +52,7 @@ pub struct Registers {
     pub ghost few: { count ≤ 64 },
 }
 
-// At most 64 registers, with their count: the rule last seen of each. Arrays that go by value from row to row are document 01's form, and there is no heap.
+// At most 64 registers, with their count: the rule last seen of each. Arrays are document 01's form, and there is no heap.
 #[derive(Clone, Copy)]
 pub struct RuleCache {
     pub register: [u32; 64],

@@ -5,9 +5,11 @@ ghost use Rattle.std.specs.List.{list_any};
 ghost use Rattle.text.specs.Text.{Put};
 ghost use Rattle.text.specs.Tests.{any};
 ghost use Rattle.tables.specs.Tables.{cfi_name};
-ghost use Rattle.dwarf.specs.Dwarf.{rows, registers, once, seen, differs, cfa_differs, remember, form_bytes, rule_bytes, cfa_bytes, ra_bytes, default_bytes, start_bytes, line_bytes, ran_row, ran_rules, ran_rows, dwarf_text, no_cfa, nothing_seen};
+ghost use Rattle.dwarf.specs.Dwarf.{rows, registers, once, seen, differs, cfa_differs, remember, no_cfa, nothing_seen};
+ghost use Rattle.dwarf.specs.Dwarf.{form_bytes, rule_bytes, cfa_bytes, ra_bytes, default_bytes, start_bytes, line_bytes};
+ghost use Rattle.dwarf.specs.Dwarf.{ran_row, ran_rules, ran_rows, dwarf_text};
 ghost use Rattle.dwarf.specs.Cache.{lookup, cfa_if, cfa_of, newly, fresh, Forms, formatted, Remembers, After};
-ghost use Rattle.dwarf.specs.Slices.{rules_in, row_of, row_is, new_in, moved_in};
+ghost use Rattle.dwarf.specs.Slices.{rules_in, row_is, new_in, moved_in};
 
 use crate::body::{
     Body, OFFSET, REGISTER, REGISTER_VALUES, RowWords, RuleWords, SAME, VALUE_OFFSET,
@@ -261,7 +263,8 @@ fn put_start(out: &mut [u8], at: usize, fde: Fde, start: u64) -> usize
 // The default, at the first start, where the return register's rule does not change.
 #[tactic(auto, unfolding(crate::specs::Dwarf::default_bytes, crate::specs::Cache::formatted))]
 fn new_default(fde: Fde, row: RowWords, cache: &RuleCache) -> Option<Rule>
-    ensures { let w = row_of row.entry.head.now row.entry.rules.now in formatted result ≡ default_bytes fde w.start (list_any (moved_in fde.ra (lookup cache.now)) row.entry.rules.now) }
+    ensures { let moved = list_any (moved_in fde.ra (lookup cache.now)) row.entry.rules.now in
+        formatted result ≡ default_bytes fde (row_is row.entry).start moved }
 {
     if row.start() == fde.start && !is_moved(row.rules, fde.ra, cache) {
         return format_default(fde);
@@ -279,7 +282,7 @@ fn put_line(
     cache: &mut RuleCache,
 ) -> usize
     requires { cache.old.count + fresh (lookup cache.old) (rules_in row.rules.now) ≤ 64 }
-    ensures puts { let w = row_of row.entry.head.now row.entry.rules.now in
+    ensures puts { let w = row_is row.entry in
         let moved = list_any (moved_in fde.ra (lookup cache.old)) row.entry.rules.now in
         Put out.old at (line_bytes fde w.start (formatted cfa ++ ran_rules fde.family fde.ra (lookup cache.old) w.rules) moved) out.new result }
     ensures sees { Remembers cache.old (rules_in row.entry.rules.now) cache.new }
