@@ -212,6 +212,7 @@ impl<'a> Body<'a> {
         word64(self.words, LOAD_ADDRESS_AT)
     }
 
+    #[tactic(auto, unfolding(crate::specs::Dwarf::first_start))]
     pub(crate) fn first_start(self) -> u64
         ensures { result ≡ first_start (rows_of self.entry.words.now) }
     {
@@ -223,6 +224,7 @@ impl<'a> Body<'a> {
     }
 
     // The last row's end.
+    #[tactic(auto, unfolding(crate::specs::Dwarf::last_end))]
     pub(crate) fn last_end(self) -> u64
         ensures { result ≡ last_end 0 (rows_of self.entry.words.now) }
     {

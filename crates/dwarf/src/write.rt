@@ -28,6 +28,7 @@ const LAST_IN_REGISTER: u32 = 9;
 // ---- the rules last seen
 
 impl RuleCache {
+    #[tactic(auto, unfolding(crate::specs::Cache::lookup, crate::specs::Cache::first_in, crate::specs::Dwarf::nothing_seen))]
     fn start() -> RuleCache
         ensures { (result.count ≡ 0) × (lookup result ≡ nothing_seen) }
     {
@@ -102,6 +103,7 @@ impl RuleCache {
 
 // ---- what is written of a rule
 
+#[tactic(auto, using(crate::proofs::Forms::none_any), unfolding(crate::specs::Cache::formed, lines::specs::Lines::form_text, rules::specs::Rules::form_of, rules::specs::Rules::reg_name))]
 fn register_form(family: u32, register: u32) -> Option<Form>
     ensures { Forms (cfi_name family register) result }
 {
@@ -112,6 +114,7 @@ fn register_form(family: u32, register: u32) -> Option<Form>
 }
 
 // The value is a register; the tables have none past 65,535.
+#[tactic(auto, using(crate::proofs::Forms::name_far), unfolding(text::specs::Tests::any, crate::specs::Cache::formed))]
 fn value_form(family: u32, value: u64) -> Option<Form>
     ensures { Forms (cfi_name family value) result }
 {
@@ -121,6 +124,7 @@ fn value_form(family: u32, value: u64) -> Option<Form>
     None
 }
 
+#[tactic(auto, using(crate::proofs::Ints::cast_is), unfolding(crate::specs::Dwarf::form_bytes, crate::specs::Cache::formed, lines::specs::Lines::form_text, rules::specs::Rules::form_of, text::specs::Tests::any))]
 fn rule_form(family: u32, rule: RegisterRule) -> Option<Form>
     ensures { Forms (form_bytes family rule) result }
 {
@@ -134,6 +138,7 @@ fn rule_form(family: u32, rule: RegisterRule) -> Option<Form>
 }
 
 // The return register is called .ra, any other by its table name.
+#[tactic(auto, using(crate::proofs::Forms::named_some, crate::proofs::Forms::no_name, crate::proofs::Forms::no_form), unfolding(crate::specs::Dwarf::rule_bytes, crate::specs::Cache::formatted, crate::specs::Cache::formed, lines::specs::Lines::rule_text, rules::specs::Rules::rule_of, text::specs::Tests::any))]
 fn format_rule(fde: Fde, rule: RegisterRule) -> Option<Rule>
     ensures { formatted result ≡ rule_bytes fde.family fde.ra rule }
 {
@@ -150,6 +155,7 @@ fn format_rule(fde: Fde, rule: RegisterRule) -> Option<Rule>
 }
 
 // " .cfa: R N +"; an expression writes nothing.
+#[tactic(auto, using(crate::proofs::Ints::cast_is), unfolding(crate::specs::Dwarf::cfa_bytes, crate::specs::Cache::formatted, lines::specs::Lines::form_text, lines::specs::Lines::rule_text, rules::specs::Rules::rule_of, rules::specs::Rules::reg_name, rules::specs::Rules::form_of))]
 fn format_cfa(family: u32, cfa: CfaRule) -> Option<Rule>
     ensures { formatted result ≡ cfa_bytes family cfa }
 {
@@ -166,6 +172,7 @@ fn format_cfa(family: u32, cfa: CfaRule) -> Option<Rule>
 }
 
 // Where the return address is in a register, families 3 to 9: " .ra: Q".
+#[tactic(auto, unfolding(crate::specs::Dwarf::ra_bytes, crate::specs::Cache::formatted, lines::specs::Lines::form_text, lines::specs::Lines::rule_text, rules::specs::Rules::rule_of, rules::specs::Rules::reg_name, rules::specs::Rules::form_of))]
 fn format_default(fde: Fde) -> Option<Rule>
     ensures { formatted result ≡ ra_bytes fde.family fde.ra }
 {
@@ -179,6 +186,7 @@ fn format_default(fde: Fde) -> Option<Rule>
 }
 
 // The CFA's rule, where it differs from the one last seen.
+#[tactic(auto, unfolding(crate::specs::Cache::formatted))]
 fn new_cfa(family: u32, cfa: CfaRule, last: Option<CfaRule>) -> Option<Rule>
     ensures { formatted result ≡ cond (cfa_differs (cfa_if last) cfa) (cfa_bytes family cfa) [] }
 {
@@ -188,6 +196,7 @@ fn new_cfa(family: u32, cfa: CfaRule, last: Option<CfaRule>) -> Option<Rule>
     format_cfa(family, cfa)
 }
 
+#[tactic(auto, using(text::specs::Text::Laws::put_none), unfolding(crate::specs::Cache::formatted))]
 fn put_formatted(out: &mut [u8], at: usize, rule: Option<Rule>) -> usize
     ensures { Put out.old at (formatted rule) out.new result }
 {
@@ -200,6 +209,7 @@ fn put_formatted(out: &mut [u8], at: usize, rule: Option<Rule>) -> usize
 // ---- a row
 
 // Whether a rule can be written: it has the names that it needs.
+#[tactic(auto, using(crate::proofs::Forms::some_any))]
 fn is_writable(fde: Fde, rule: RegisterRule) -> bool
     ensures { result ≡ any (rule_bytes fde.family fde.ra rule) }
 {
@@ -250,6 +260,7 @@ fn put_rules(
 }
 
 // The beginning of a row's line: INIT at the first start.
+#[tactic(auto, unfolding(crate::specs::Dwarf::start_bytes, lines::specs::Lines::init_text, lines::specs::Lines::later_text))]
 fn put_start(out: &mut [u8], at: usize, fde: Fde, start: u64) -> usize
     ensures { Put out.old at (start_bytes fde start) out.new result }
 {
@@ -336,6 +347,7 @@ fn put_rows(out: &mut [u8], at: usize, body: Body, fde: Fde) -> usize
     p
 }
 
+#[tactic(auto, unfolding(crate::specs::Dwarf::dwarf_text))]
 pub(crate) fn put_entry(out: &mut [u8], at: usize, body: Body) -> usize
     ensures { Put out.old at (dwarf_text body.entry.words.now) out.new result }
 {

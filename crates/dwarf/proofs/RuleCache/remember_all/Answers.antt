@@ -1,10 +1,7 @@
 -- `remember_all`: a turn remembers the next rule.
-use Rattle.dwarf.proofs.Loops.{rules_all, rule_room, rule_turn, rules_done}
+use Rattle.dwarf.proofs.Loops.{rule_room, rule_turn, rules_done}
 use Rattle.dwarf.proofs.Slices.{next_rule, no_rule}
 use Rattle.dwarf.proofs.RuleCache.remember_all.Goals as goal
-
-pub loop-words-init : goal.loop-words-init
-loop-words-init c = rules_all _ _
 
 pub remember-requires : goal.remember-requires
 remember-requires c = rw c.from.ensures (rule_room c.loop-words.invariant (next_rule _ _ c.loop-words-test.true) c.requires)

@@ -1,5 +1,5 @@
 -- `meet_rules`: no room for the next register is no room for all.
-use Rattle.std.proofs.Common.{◌≡◌, ℕ, List, [], ◌∷◌, ◌+◌, ◌<◌, ◌≤◌, drop, length, get_or, refl}
+use Rattle.std.proofs.Common.{◌≡◌, ℕ, List, [], ◌∷◌, ◌+◌, ◌<◌, ◌≤◌, drop, length, get_or}
 use Rattle.entry.specs.Entry.{word}
 use Rattle.dwarf.specs.Dwarf.{registers, rule_at}
 use Rattle.dwarf.specs.Slices.{rule_in, rules_in}
@@ -14,9 +14,6 @@ next rs i h = rw (next_rule rs i h)
 none : (rs : List (List ℕ)) (i : ℕ) → length rs ≤ i → registers (rules_in (drop i rs)) ≡ []
 unfolding registers
 none rs i h = rw (no_rule rs i h)
-
-pub loop-register-init : goal.loop-register-init
-loop-register-init c = record { counts = λ ys. refl }
 
 pub returns-then-not-meet : goal.returns-then-not-meet
 returns-then-not-meet c = meet_over c.loop-register.invariant (next _ _ c.loop-register-test.true) c.if-not-meet.ensures

@@ -1,14 +1,10 @@
 -- `put_rules`: a turn puts the next rule, where it differs.
 use Rattle.std.proofs.Common.{sym, ◌∙◌, arith}
-use Rattle.text.specs.Text.Laws.{left_all}
-use Rattle.dwarf.proofs.Loops.{rules_all, rule_room, rules_done, put_turn, put_done}
+use Rattle.dwarf.proofs.Loops.{rule_room, rules_done, put_turn, put_done}
 use Rattle.dwarf.proofs.Forms.{put_taken, put_left}
 use Rattle.dwarf.proofs.Slices.{next_rule, no_rule}
 use Rattle.dwarf.proofs.write.put_rules.Goals.{then-changed, else-changed}
 use Rattle.dwarf.proofs.write.put_rules.Goals as goal
-
-pub loop-words-init : goal.loop-words-init
-loop-words-init c = record { rules = rules_all _ _; text = left_all (omega arith) (omega arith) }
 
 pub remember-changed-requires : goal.remember-changed-requires
 remember-changed-requires c = rw c.from-rule.ensures (rule_room c.loop-words.invariant.rules (next_rule _ _ c.loop-words-test.true) c.requires)

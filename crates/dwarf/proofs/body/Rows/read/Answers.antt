@@ -1,13 +1,9 @@
 -- `Rows::read`: one row more fits, or it decides.
-use Rattle.std.proofs.Common.{◌≡◌, sym, ap, ◌∙◌, ◌+◌, ◌-◌, arith}
+use Rattle.std.proofs.Common.{◌≡◌, sym, ◌∙◌, ◌+◌, ◌-◌, arith}
 use Rattle.text.specs.Tests.{and_no, and_yes}
-use Rattle.dwarf.specs.Dwarf.{rows_fit}
 use Rattle.dwarf.specs.Slices.{row_fits_in}
 use Rattle.dwarf.proofs.Slices.{fit_end, fit_cut, fit_more}
 use Rattle.dwarf.proofs.body.Rows.read.Goals as goal
-
-pub loop-init : goal.loop-init
-loop-init c = let e : c.args.count - 0 ≡ c.args.count = omega arith in ap (λ n. rows_fit c.args.words.now n 0) e
 
 pub returns-in_err-row : goal.returns-in_err-row
 returns-in_err-row c =
