@@ -22,6 +22,9 @@ ghost use Rattle.x64.specs.X64.{chain, growth_of, value_of, x64_layout};
 ghost use Rattle.x64.specs.Index.{op_in, info_length, info_at, IsInfo, left_to_run};
 
 use crate::Op;
+use crate::kinds::{
+    ALLOC, PUSH_MACHINE_FRAME, PUSH_NONVOLATILE, SAVE_FP, SAVE_RSP, SET_FP_REGISTER, UNDECODABLE,
+};
 use entry::word;
 
 // Where the words of a body stand.
@@ -46,21 +49,6 @@ const FIRST_OP: usize = 3;
 const OP_WORDS: usize = 3;
 
 pub(crate) type OpWords = [u32; OP_WORDS];
-
-// The kinds of operations, by the numbers that the words have.
-pub(crate) const PUSH_NONVOLATILE: u32 = 1;
-
-const ALLOC: u32 = 2;
-
-pub(crate) const SAVE_RSP: u32 = 3;
-
-pub(crate) const SAVE_FP: u32 = 4;
-
-const SET_FP_REGISTER: u32 = 5;
-
-pub(crate) const PUSH_MACHINE_FRAME: u32 = 6;
-
-pub(crate) const UNDECODABLE: u32 = 8;
 
 // A register or an address on the stack. The total starts with one: the return address.
 pub(crate) const SLOT: u32 = 8;
@@ -242,16 +230,13 @@ impl<'a> Iterator for Chain<'a> {
     ghost remaining = { item_count (λ s. left_to_run s.body.words.now s.left s.info.register s.info.offset s.info.ops.now) };
 
     fn next(&mut self) -> Option<Op> {
-        loop {
-            if let Some((words, others)) = self.info.ops.split_last() {
-                self.info.ops = others;
-                return Some(self.info.op(words));
-            }
-            if self.left == 0 {
-                return None;
-            }
+        // infos may have no operations
+        while self.info.ops.is_empty() && 0 < self.left {
             self.left -= 1;
             self.info = self.body.info(self.left);
         }
+        let (words, others) = self.info.ops.split_last()?;
+        self.info.ops = others;
+        Some(self.info.op(words))
     }
 }

@@ -1,15 +1,13 @@
-// What becomes of an x64 entry: refused by 4, skipped, refused by 5, or its chain is run, which refusals 6 and 7 are about.
-// A chain is run once for these, and what it comes to goes on to the line.
+// The tests of an x64 entry: the layout (refusal 4), skipping, and the chain (refusals 6 and 7), which is run once for these, and what it comes to
+// goes on to the line.
 ghost use Rattle.std.specs.Prelude.{◌≡◌, min, false, get_or, Some, None, MatchOption, MatchResult};
 ghost use Rattle.std.specs.List.{list_all, list_any};
 ghost use Rattle.x64.specs.X64.{chain, x64_layout, all_zero, undecodable_infos, x64_skipped};
 ghost use Rattle.x64.specs.Index.{op_fits_in, fits_in, undecodable_in, chain_refusal};
 ghost use Rattle.x64.specs.Scan.{scan_start, advance, scan_step, scanned};
 
-use crate::body::{
-    Body, FIRST_INFO, INFO_ADDRESS_AT, INFOS_AT, Info, OpWords, PUSH_MACHINE_FRAME,
-    PUSH_NONVOLATILE, SAVE_FP, SAVE_RSP, SLOT, UNDECODABLE,
-};
+use crate::body::{Body, FIRST_INFO, INFO_ADDRESS_AT, INFOS_AT, Info, OpWords, SLOT};
+use crate::kinds::{PUSH_MACHINE_FRAME, PUSH_NONVOLATILE, SAVE_FP, SAVE_RSP, UNDECODABLE};
 use crate::{Frame, Op, Scan};
 use entry::word;
 use refusal::Refusal;
@@ -69,7 +67,7 @@ impl<'a> Info<'a> {
 
 impl<'a> Body<'a> {
     // These words, where refusal 4 does not apply: ranges, and exactly the words that the counts demand.
-    pub(crate) fn new(words: &'a [u32]) -> Option<Body<'a>>
+    pub(crate) fn read(words: &'a [u32]) -> Option<Body<'a>>
         ensures { MatchOption result (x64_layout words.now ≡ false) (λ b. b.words.now ≡ words.now) }
     {
         let infos = word(words, INFOS_AT);

@@ -9,11 +9,13 @@
 // A chain of infos describes one function: its own info, then that of the function it is a part of, its parent, and so on. The outermost parent's
 // operations came first in the prologue, so the infos are run last to first, and the operations of each, stored last first, backwards.
 //
-// body reads the words, judge says what becomes of an entry and what its chain comes to, write puts its line.
+// kinds numbers the operations, body reads the words, judge has the tests for refusal 4, for skipping and for refusals 6 and 7, write puts the line.
+// process_pe asks in their order, and for refusal 5 itself.
 #![tactic(auto)]
 
 mod body;
 mod judge;
+pub mod kinds;
 mod write;
 
 ghost use Rattle.entry.specs.Entry.{Processed};
@@ -53,7 +55,7 @@ pub struct Frame {
 }
 
 // What a chain comes to, as far as it is run: the total, the frame register that was set first, whether one was set again, and whether there was a
-// machine frame.
+// machine frame. `twice` stands beside `frame` and ends no run: document 01 has refusal 6, which an operation further on may meet, before 7.
 #[derive(Clone, Copy)]
 pub struct Scan {
     pub total: u32,
@@ -72,7 +74,7 @@ pub fn process_pe(
 ) -> Result<Wrote, Refusal>
     ensures { Processed (x64_entry limit last body.now) out.old at out.new result }
 {
-    let body = Body::new(body).ok_or(Refusal::Layout)?;
+    let body = Body::read(body).ok_or(Refusal::Layout)?;
     if body.is_skipped(limit) {
         return Ok(Wrote { at, last });
     }

@@ -2,14 +2,15 @@
 ghost use Rattle.std.specs.Prelude.{◌≡◌, ◌^◌, ◌<◌, pos, T, Some};
 ghost use Rattle.text.specs.Text.{Put, ascii};
 ghost use Rattle.tables.specs.Tables.{pe_name};
-ghost use Rattle.x64.specs.X64.{chain, run, saved_text, framed_text, machine_text, op_text, cfa_text, ra_text, x64_text};
+ghost use Rattle.names.specs.Names.{name_text};
+ghost use Rattle.x64.specs.X64.{chain, run, saved_text, framed_text, machine_text, op_text, cfa_text, x64_text};
 ghost use Rattle.x64.specs.Index.{reaches};
 ghost use Rattle.x64.specs.Scan.{scan_start, scanned, cfa_of};
 
 use crate::body::{Body, SLOT};
 use crate::{Op, Scan};
 use lines::put_init;
-use names::pe_register_name;
+use names::{Name, pe_register_name};
 use rules::{Form, Reg, Rule, cfa_name, put_rule, ra_name};
 use text::put_byte;
 
@@ -23,12 +24,11 @@ const PUSHED_RIP: i64 = 40;
 
 // ---- the rules that operations write
 
-// " R: .cfa N - ^"
+// " NAME: .cfa N - ^"
 #[tactic(auto, using(crate::specs::Index::saved_rule, crate::proofs::Rules::same_i64), unfolding(rules::specs::Rules::rule_of, rules::specs::Rules::form_of))]
-fn put_saved(out: &mut [u8], at: usize, register: u32, n: i64) -> usize
-    ensures { Put out.old at (saved_text (pe_name register) n) out.new result }
+fn put_saved(out: &mut [u8], at: usize, name: Name, n: i64) -> usize
+    ensures { Put out.old at (saved_text (name_text name) n) out.new result }
 {
-    let name = pe_register_name(register);
     let form = Form::AtCfaMinus(n);
     put_rule(out, at, Rule { name, form })
 }
@@ -40,16 +40,6 @@ fn put_framed(out: &mut [u8], at: usize, register: u32, frame: u32, n: i64) -> u
 {
     let name = pe_register_name(register);
     let form = Form::AtRegisterPlus(Reg::Pe(frame), n);
-    put_rule(out, at, Rule { name, form })
-}
-
-// " .ra: .cfa N - ^"
-#[tactic(auto, using(crate::specs::Index::saved_rule, crate::proofs::Rules::same_i64), unfolding(rules::specs::Rules::rule_of, rules::specs::Rules::form_of))]
-fn put_return(out: &mut [u8], at: usize, n: i64) -> usize
-    ensures { Put out.old at (saved_text (ascii ".ra") n) out.new result }
-{
-    let name = ra_name();
-    let form = Form::AtCfaMinus(n);
     put_rule(out, at, Rule { name, form })
 }
 
@@ -67,8 +57,9 @@ fn put_cfa(out: &mut [u8], at: usize, register: u32, n: i64) -> usize
 fn put_machine(out: &mut [u8], at: usize, total: u32) -> usize
     ensures { Put out.old at (machine_text total) out.new result }
 {
-    let p = put_saved(out, at, RSP, total as i64 + PUSHED_RSP);
-    put_return(out, p, total as i64 + PUSHED_RIP)
+    let rsp = pe_register_name(RSP);
+    let p = put_saved(out, at, rsp, total as i64 + PUSHED_RSP);
+    put_saved(out, p, ra_name(), total as i64 + PUSHED_RIP)
 }
 
 // What an operation writes where the total is `total`.
@@ -78,9 +69,13 @@ fn put_op(out: &mut [u8], at: usize, total: u32, op: Op) -> usize
 {
     match op {
         Op::PushNonVolatile(register) => {
-            put_saved(out, at, register, total as i64 + SLOT as i64)
+            let name = pe_register_name(register);
+            put_saved(out, at, name, total as i64 + SLOT as i64)
         }
-        Op::SaveRsp(register, v) => put_saved(out, at, register, total as i64 - v as i64),
+        Op::SaveRsp(register, v) => {
+            let name = pe_register_name(register);
+            put_saved(out, at, name, total as i64 - v as i64)
+        }
         Op::SaveFp(register, v, frame, offset) => {
             put_framed(out, at, register, frame, v as i64 - offset as i64)
         }
@@ -121,16 +116,6 @@ fn put_scan(out: &mut [u8], at: usize, scan: Scan) -> usize
     }
 }
 
-#[tactic(auto, using(text::specs::Text::Laws::put_none), unfolding(crate::specs::X64::ra_text))]
-fn put_ra(out: &mut [u8], at: usize, machine: bool) -> usize
-    ensures { Put out.old at (ra_text machine) out.new result }
-{
-    if machine {
-        return at;
-    }
-    put_return(out, at, SLOT as i64)
-}
-
 // The line; `scan` is what the chain came to.
 pub(crate) fn put_entry(out: &mut [u8], at: usize, body: Body, scan: Scan) -> usize
     requires { scanned scan_start (chain body.words.now) ≡ Some scan }
@@ -138,9 +123,11 @@ pub(crate) fn put_entry(out: &mut [u8], at: usize, body: Body, scan: Scan) -> us
 {
     let begin = body.begin();
     let size = body.end().saturating_sub(begin);
-    let p = put_init(out, at, begin as u64, size as u64);
-    let p = put_scan(out, p, scan);
-    let p = put_chain(out, p, body);
-    let p = put_ra(out, p, scan.machine);
+    let mut p = put_init(out, at, begin as u64, size as u64);
+    p = put_scan(out, p, scan);
+    p = put_chain(out, p, body);
+    if !scan.machine {
+        p = put_saved(out, p, ra_name(), SLOT as i64);
+    }
     put_byte(out, p, b'\n')
 }

@@ -10,4 +10,5 @@ pub returns : goal.returns
 unfolding machine_text pe_name pe_x64
 returns c =
     let S = c.args.total in
-    (rw (sum_is S 16 (omega arith) (omega arith)) at c.put_saved-p.ensures) ⨾ (rw (sum_is S 40 (omega arith) (omega arith)) at c.put_return.ensures)
+    (rw (c.pe_register_name-rsp.ensures, sum_is S 16 (omega arith) (omega arith)) at c.put_saved-p.ensures)
+    ⨾ (rw (c.ra_name.ensures, sum_is S 40 (omega arith) (omega arith)) at c.put_saved.ensures)

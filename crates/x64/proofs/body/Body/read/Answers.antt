@@ -1,9 +1,9 @@
--- `Body::new`: one info more fits, or it decides.
+-- `Body::read`: one info more fits, or it decides.
 use Rattle.std.proofs.Common.{◌≡◌, sym, ◌∙◌, ◌+◌, ◌-◌, length, drop, ⊎_elim, arith}
 use Rattle.std.proofs.lemmas.List.{take_all, length-drop}
 use Rattle.text.specs.Tests.{and_no, and_yes}
 use Rattle.x64.specs.Index.{fits_in, fit_end, fit_cut, fit_more, layout_starts, layout_no}
-use Rattle.x64.proofs.body.Body.new.Goals as goal
+use Rattle.x64.proofs.body.Body.read.Goals as goal
 
 pub returns-then-infos-lt1 : goal.returns-then-infos-lt1
 returns-then-infos-lt1 c =
