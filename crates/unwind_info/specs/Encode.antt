@@ -12,9 +12,9 @@ use Rattle.std.proofs.Math.Dec.{T}
 use borrow.Author.Tests.{eqb-true, le-leb, le-ltb}
 use Rattle.text.specs.Tests.{and_l, and_r, both, all_append}
 use Rattle.entry.specs.Entry.{word}
-use Rattle.unwind_info.specs.declared.OpKind.{OpKind}
-use Rattle.unwind_info.specs.declared.OpKind.TheVariants.{PushNonVolatile, Alloc, SetFpRegister, PushMachineFrame}
-use Rattle.unwind_info.specs.UnwindInfo.{slot_at, long_at, part_size, code, save_kind, codes, code_at, codes_in, codes_of, kind_number, op_words, info_words}
+use Rattle.unwind_info.specs.declared.Operation.{Operation}
+use Rattle.unwind_info.specs.declared.Operation.TheVariants.{PushNonVolatile, Alloc, SaveRsp, SaveFp, SetFpRegister, PushMachineFrame}
+use Rattle.unwind_info.specs.UnwindInfo.{slot_at, long_at, part_size, code, save, codes, code_at, codes_in, codes_of, kind_of, register_of, value_of, op_words, info_words}
 use Rattle.unwind_info.specs.UnwindInfo.{parts, infos_words, x64_body, part_number, first_refused, x64_number, decoded}
 use Rattle.unwind_info.specs.Index.{parts_first, parts_none}
 use Rattle.unwind_info.specs.Words.{are_bytes}
@@ -51,22 +51,24 @@ op_bytes k r v =
 unfoldable pub op_encodes : ℕ → ℕ → ℕ → ℕ → Bool
 op_encodes f k r v =
     cond (eqb k 1) (ltb r 16 && eqb v 0) (cond (eqb k 2) (eqb r 0 && ltb v (2 ^ 32)) (cond (eqb k 5) (eqb r 0 && eqb v 0)
-    (cond (eqb k 6) (eqb r 0 && leb v 1) (eqb k (kind_number (save_kind f)) && (ltb r 16 && ltb v (2 ^ 32))))))
+    (cond (eqb k 6) (eqb r 0 && leb v 1) (eqb k (kind_of (save f r v)) && (ltb r 16 && ltb v (2 ^ 32))))))
 
 -- ---- one operation
 
 -- bytes that are read as an operation, whatever follows
-record Encoded (f : ℕ) (k : OpKind) (r v : ℕ) (bytes : List ℕ) : Type 0 where
+record Encoded (f : ℕ) (o : Operation) (bytes : List ℕ) : Type 0 where
   pub slots : ℕ
   pub some : 1 ≤ slots
   pub size : length bytes ≡ 2 * slots
-  pub is : (rest : List ℕ) → code_at f (bytes ++ rest) ≡ code slots k r v
+  pub is : (rest : List ℕ) → code_at f (bytes ++ rest) ≡ code slots o
 
 -- the same of its words
 record Read (f k r v : ℕ) (bytes : List ℕ) : Type 0 where
-  pub kind : OpKind
-  pub number : kind_number kind ≡ k
-  pub encoded : Encoded f kind r v bytes
+  pub operation : Operation
+  pub kind : kind_of operation ≡ k
+  pub register : register_of operation ≡ r
+  pub value : value_of operation ≡ v
+  pub encoded : Encoded f operation bytes
 
 -- operation code and info are read as they were put
 code_read : (f c i : ℕ) (rest : List ℕ) → c < 16
@@ -85,82 +87,95 @@ long_read : (x y v : ℕ) (rest : List ℕ) → long_at (x ∷ y ∷ long_bytes 
 unfolding long_at slot_at
 long_read x y v rest = omega arith
 
-push_encoded : (f r : ℕ) → Encoded f PushNonVolatile r 0 (code_bytes 0 r)
+push_encoded : (f r : ℕ) → Encoded f (PushNonVolatile r) (code_bytes 0 r)
 unfolding codes
 push_encoded f r = record { slots = 1; some = omega arith; size = refl; is = λ rest. code_read f 0 r rest (omega arith) }
 
-set_encoded : (f : ℕ) → Encoded f SetFpRegister 0 0 (code_bytes 3 0)
+set_encoded : (f : ℕ) → Encoded f SetFpRegister (code_bytes 3 0)
 unfolding codes
 set_encoded f = record { slots = 1; some = omega arith; size = refl; is = λ rest. code_read f 3 0 rest (omega arith) }
 
-frame_encoded : (f v : ℕ) → v ≤ 1 → Encoded f PushMachineFrame 0 v (code_bytes 10 v)
+frame_encoded : (f v : ℕ) → v ≤ 1 → Encoded f (PushMachineFrame (eqb v 1)) (code_bytes 10 v)
 unfolding codes
 frame_encoded f v h = record { slots = 1; some = omega arith; size = refl; is = λ rest. code_read f 10 v rest (omega arith) ∙ rw (le-leb v 1 h) }
 
 units : (v : ℕ) → T (in_units v) → (v % 8 ≡ 0) × (v < 524288)
 units v h = (eqb→eq (v % 8) 0 (and_l (eqb (v % 8) 0) _ h), ltb→lt v 524288 (and_r (eqb (v % 8) 0) _ h))
 
-alloc_encoded : (f v : ℕ) → Encoded f Alloc 0 v (alloc_bytes v)
+alloc_encoded : (f v : ℕ) → Encoded f (Alloc v) (alloc_bytes v)
 unfolding alloc_bytes codes
 alloc_encoded f v = go (in_units v) (leb 8 v && leb v 128) refl refl
   where
-    small : T (leb 8 v && leb v 128) → v % 8 ≡ 0 → Encoded f Alloc 0 v (code_bytes 2 (v / 8 - 1))
+    small : T (leb 8 v && leb v 128) → v % 8 ≡ 0 → Encoded f (Alloc v) (code_bytes 2 (v / 8 - 1))
     small h m =
         let low = leb→le 8 v (and_l (leb 8 v) _ h) in
         let high = leb→le v 128 (and_r (leb 8 v) _ h) in
         let e : 8 * (v / 8 - 1) + 8 ≡ v = omega arith in
-        record { slots = 1; some = omega arith; size = refl; is = λ rest. code_read f 2 (v / 8 - 1) rest (omega arith) ∙ ap (code 1 Alloc 0) e }
+        record { slots = 1; some = omega arith; size = refl; is = λ rest. code_read f 2 (v / 8 - 1) rest (omega arith) ∙ ap (λ (n : ℕ). code 1 (Alloc n)) e }
 
-    near : v % 8 ≡ 0 → Encoded f Alloc 0 v (code_bytes 1 0 ++ slot_bytes (v / 8))
+    near : v % 8 ≡ 0 → Encoded f (Alloc v) (code_bytes 1 0 ++ slot_bytes (v / 8))
     near m =
         let e : 8 * (v / 8) ≡ v = omega arith in
         record {
           slots = 2;
           some = omega arith;
           size = refl;
-          is = λ rest. code_read f 1 0 (slot_bytes (v / 8) ++ rest) (omega arith) ∙ ap (λ (n : ℕ). code 2 Alloc 0 (8 * n)) (slot_read 0 1 (v / 8) rest) ∙ ap (code 2 Alloc 0) e;
+          is = λ rest. code_read f 1 0 (slot_bytes (v / 8) ++ rest) (omega arith) ∙ ap (λ (n : ℕ). code 2 (Alloc (8 * n))) (slot_read 0 1 (v / 8) rest) ∙ ap (λ (n : ℕ). code 2 (Alloc n)) e;
         }
 
-    far : Encoded f Alloc 0 v (code_bytes 1 1 ++ long_bytes v)
+    far : Encoded f (Alloc v) (code_bytes 1 1 ++ long_bytes v)
     far = record {
       slots = 3;
       some = omega arith;
       size = refl;
-      is = λ rest. code_read f 1 1 (long_bytes v ++ rest) (omega arith) ∙ ap (code 3 Alloc 0) (long_read 0 17 v rest);
+      is = λ rest. code_read f 1 1 (long_bytes v ++ rest) (omega arith) ∙ ap (λ (n : ℕ). code 3 (Alloc n)) (long_read 0 17 v rest);
     }
 
     go : (u s : Bool) → in_units v ≡ u → (leb 8 v && leb v 128) ≡ s
-        → Encoded f Alloc 0 v (cond u (cond s (code_bytes 2 (v / 8 - 1)) (code_bytes 1 0 ++ slot_bytes (v / 8))) (code_bytes 1 1 ++ long_bytes v))
+        → Encoded f (Alloc v) (cond u (cond s (code_bytes 2 (v / 8 - 1)) (code_bytes 1 0 ++ slot_bytes (v / 8))) (code_bytes 1 1 ++ long_bytes v))
     go true true e q = small (rw q tt) (units v (rw e tt)).0
     go true false e q = near (units v (rw e tt)).0
     go false s e q = far
 
-save_encoded : (f r v : ℕ) → Encoded f (save_kind f) r v (save_bytes r v)
+save_encoded : (f r v : ℕ) → Encoded f (save f r v) (save_bytes r v)
 unfolding save_bytes codes
 save_encoded f r v = go (in_units v) refl
   where
-    near : v % 8 ≡ 0 → Encoded f (save_kind f) r v (code_bytes 4 r ++ slot_bytes (v / 8))
+    near : v % 8 ≡ 0 → Encoded f (save f r v) (code_bytes 4 r ++ slot_bytes (v / 8))
     near m =
         let e : 8 * (v / 8) ≡ v = omega arith in
         record {
           slots = 2;
           some = omega arith;
           size = refl;
-          is = λ rest. code_read f 4 r (slot_bytes (v / 8) ++ rest) (omega arith) ∙ ap (λ (n : ℕ). code 2 (save_kind f) r (8 * n)) (slot_read 0 (4 + 16 * r) (v / 8) rest)
-              ∙ ap (code 2 (save_kind f) r) e;
+          is = λ rest. code_read f 4 r (slot_bytes (v / 8) ++ rest) (omega arith) ∙ ap (λ (n : ℕ). code 2 (save f r (8 * n))) (slot_read 0 (4 + 16 * r) (v / 8) rest)
+              ∙ ap (λ (n : ℕ). code 2 (save f r n)) e;
         }
 
-    far : Encoded f (save_kind f) r v (code_bytes 5 r ++ long_bytes v)
+    far : Encoded f (save f r v) (code_bytes 5 r ++ long_bytes v)
     far = record {
       slots = 3;
       some = omega arith;
       size = refl;
-      is = λ rest. code_read f 5 r (long_bytes v ++ rest) (omega arith) ∙ ap (code 3 (save_kind f) r) (long_read 0 (5 + 16 * r) v rest);
+      is = λ rest. code_read f 5 r (long_bytes v ++ rest) (omega arith) ∙ ap (λ (n : ℕ). code 3 (save f r n)) (long_read 0 (5 + 16 * r) v rest);
     }
 
-    go : (u : Bool) → in_units v ≡ u → Encoded f (save_kind f) r v (cond u (code_bytes 4 r ++ slot_bytes (v / 8)) (code_bytes 5 r ++ long_bytes v))
+    go : (u : Bool) → in_units v ≡ u → Encoded f (save f r v) (cond u (code_bytes 4 r ++ slot_bytes (v / 8)) (code_bytes 5 r ++ long_bytes v))
     go true e = near (units v (rw e tt)).0
     go false e = far
+
+-- the words of a machine frame and of a save
+flag : (v : ℕ) → v ≤ 1 → cond (eqb v 1) 1 0 ≡ v
+flag zero h = refl
+flag (suc zero) h = refl
+flag (suc (suc v)) h = absurd (omega arith)
+
+saved : (f r v : ℕ) → (register_of (save f r v) ≡ r) × (value_of (save f r v) ≡ v)
+saved f r v = go (eqb f 0)
+  where
+    go : (t : Bool) → (register_of (cond t (SaveRsp r v) (SaveFp r v)) ≡ r) × (value_of (cond t (SaveRsp r v) (SaveFp r v)) ≡ v)
+    go true = (refl, refl)
+    go false = (refl, refl)
 
 -- every operation that can be encoded
 op_encoded : (f k r v : ℕ) → T (op_encodes f k r v) → Read f k r v (op_bytes k r v)
@@ -170,7 +185,7 @@ op_encoded f k r v h = go (eqb k 1) (eqb k 2) (eqb k 5) (eqb k 6) refl refl refl
     test : Bool → Bool → Bool → Bool → Bool
     test a b c d =
         cond a (ltb r 16 && eqb v 0) (cond b (eqb r 0 && ltb v (2 ^ 32)) (cond c (eqb r 0 && eqb v 0)
-        (cond d (eqb r 0 && leb v 1) (eqb k (kind_number (save_kind f)) && (ltb r 16 && ltb v (2 ^ 32))))))
+        (cond d (eqb r 0 && leb v 1) (eqb k (kind_of (save f r v)) && (ltb r 16 && ltb v (2 ^ 32))))))
 
     bytes : Bool → Bool → Bool → Bool → List ℕ
     bytes a b c d = cond a (code_bytes 0 r) (cond b (alloc_bytes v) (cond c (code_bytes 3 0) (cond d (code_bytes 10 v) (save_bytes r v))))
@@ -179,23 +194,25 @@ op_encoded f k r v h = go (eqb k 1) (eqb k 2) (eqb k 5) (eqb k 6) refl refl refl
     go true b c d p₁ p₂ p₅ p₆ h =
         let e : k ≡ 1 = eqb-true k 1 p₁ in
         let z : v ≡ 0 = eqb→eq v 0 (and_r (ltb r 16) _ h) in
-        record { kind = PushNonVolatile; number = sym e; encoded = rw z (push_encoded f r) }
+        record { operation = PushNonVolatile r; kind = sym e; register = refl; value = sym z; encoded = push_encoded f r }
     go false true c d p₁ p₂ p₅ p₆ h =
         let e : k ≡ 2 = eqb-true k 2 p₂ in
         let z : r ≡ 0 = eqb→eq r 0 (and_l (eqb r 0) _ h) in
-        record { kind = Alloc; number = sym e; encoded = rw z (alloc_encoded f v) }
+        record { operation = Alloc v; kind = sym e; register = sym z; value = refl; encoded = alloc_encoded f v }
     go false false true d p₁ p₂ p₅ p₆ h =
         let e : k ≡ 5 = eqb-true k 5 p₅ in
         let z : r ≡ 0 = eqb→eq r 0 (and_l (eqb r 0) _ h) in
         let y : v ≡ 0 = eqb→eq v 0 (and_r (eqb r 0) _ h) in
-        record { kind = SetFpRegister; number = sym e; encoded = rw (z, y) (set_encoded f) }
+        record { operation = SetFpRegister; kind = sym e; register = sym z; value = sym y; encoded = set_encoded f }
     go false false false true p₁ p₂ p₅ p₆ h =
         let e : k ≡ 6 = eqb-true k 6 p₆ in
         let z : r ≡ 0 = eqb→eq r 0 (and_l (eqb r 0) _ h) in
-        record { kind = PushMachineFrame; number = sym e; encoded = rw z (frame_encoded f v (leb→le v 1 (and_r (eqb r 0) _ h))) }
+        let l : v ≤ 1 = leb→le v 1 (and_r (eqb r 0) _ h) in
+        record { operation = PushMachineFrame (eqb v 1); kind = sym e; register = sym z; value = flag v l; encoded = frame_encoded f v l }
     go false false false false p₁ p₂ p₅ p₆ h =
-        let e : k ≡ kind_number (save_kind f) = eqb→eq k (kind_number (save_kind f)) (and_l (eqb k (kind_number (save_kind f))) _ h) in
-        record { kind = save_kind f; number = sym e; encoded = save_encoded f r v }
+        let e : k ≡ kind_of (save f r v) = eqb→eq k (kind_of (save f r v)) (and_l (eqb k (kind_of (save f r v))) _ h) in
+        let s = saved f r v in
+        record { operation = save f r v; kind = sym e; register = s.0; value = s.1; encoded = save_encoded f r v }
 
 -- ---- a body
 
@@ -272,7 +289,7 @@ module _ (f : ℕ) where
   ops_read (suc n) ws h (suc k) zero e l = absurd (omega (arith, e, some n ws h))
   ops_read (suc n) ws h (suc k) (suc s) e l =
       let ih = ops_read n (drop 3 ws) m.1.1 k (suc s - x.slots) (omega (arith, sum, e)) (omega (arith, x.some, l)) in
-      rw (x.is more, le-leb 1 x.slots x.some, le-leb x.slots (suc s) fits, drop_at bytes more (2 * x.slots) x.size, r.number)
+      rw (x.is more, le-leb 1 x.slots x.some, le-leb x.slots (suc s) fits, drop_at bytes more (2 * x.slots) x.size, r.kind, r.register, r.value)
       (ap (λ (l : List ℕ). word ws 0 ∷ word ws 1 ∷ word ws 2 ∷ l) ih.0 ∙ three ws m.0, ap suc ih.1)
     where
       m : (3 ≤ length ws) × (T (op_encodes f (word ws 0) (word ws 1) (word ws 2)) × T (ops_encode f n (drop 3 ws)))
@@ -287,7 +304,7 @@ module _ (f : ℕ) where
       r : Read f (word ws 0) (word ws 1) (word ws 2) bytes
       r = op_encoded f (word ws 0) (word ws 1) (word ws 2) m.1.0
 
-      x : Encoded f r.kind (word ws 1) (word ws 2) bytes
+      x : Encoded f r.operation bytes
       x = r.encoded
 
       sum : length (bytes ++ more) ≡ 2 * x.slots + length more
@@ -399,14 +416,14 @@ op_bytes_lem f k r v h = go (eqb k 1) (eqb k 2) (eqb k 5) (eqb k 6) h
   where
     go : (a b c d : Bool)
         → T (cond a (ltb r 16 && eqb v 0) (cond b (eqb r 0 && ltb v (2 ^ 32)) (cond c (eqb r 0 && eqb v 0)
-        (cond d (eqb r 0 && leb v 1) (eqb k (kind_number (save_kind f)) && (ltb r 16 && ltb v (2 ^ 32)))))))
+        (cond d (eqb r 0 && leb v 1) (eqb k (kind_of (save f r v)) && (ltb r 16 && ltb v (2 ^ 32)))))))
         → T (are_bytes (cond a (code_bytes 0 r) (cond b (alloc_bytes v) (cond c (code_bytes 3 0) (cond d (code_bytes 10 v) (save_bytes r v))))))
     go true b c d h = code_bytes_lem 0 r (omega arith) (ltb→lt r 16 (and_l (ltb r 16) _ h))
     go false true c d h = alloc_bytes_lem v (ltb→lt v (2 ^ 32) (and_r (eqb r 0) _ h))
     go false false true d h = tt
     go false false false true h = code_bytes_lem 10 v (omega arith) (omega (arith, leb→le v 1 (and_r (eqb r 0) _ h)))
     go false false false false h =
-        let t = and_r (eqb k (kind_number (save_kind f))) _ h in
+        let t = and_r (eqb k (kind_of (save f r v))) _ h in
         save_bytes_lem r v (ltb→lt r 16 (and_l (ltb r 16) _ t)) (ltb→lt v (2 ^ 32) (and_r (ltb r 16) _ t))
 
 ops_bytes_lem : (f n : ℕ) (ws : List ℕ) → T (ops_encode f n ws) → T (are_bytes (ops_bytes n ws))

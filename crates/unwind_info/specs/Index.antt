@@ -1,16 +1,17 @@
 -- The forms that the code's iterators walk: the first code and the operations behind it, the first part and those behind it.
-use Rattle.std.specs.Prelude.{◌≡◌, Bool, true, false, cond, ◌&&◌, List, [], ◌∷◌, Option, Some, None, length, get_or, take, drop, T, eqb, ltb, leb}
+use Rattle.std.specs.Prelude.{◌≡◌, Bool, true, false, cond, ◌&&◌, ◌||◌, List, [], ◌∷◌, Option, Some, None, length, get_or, take, drop, T, eqb, ltb, leb}
 use Rattle.std.proofs.Math.Path.{refl}
-use Rattle.std.proofs.Common.{sym, ap, ◌∙◌, arith, length-drop, leb→le, lt-ltb, le-ltb, ltb-false, eq-eqb, ne_eqb}
+use Rattle.std.proofs.Common.{sym, ap, ◌∙◌, arith, length-drop, get_or-drop, leb→le, le-leb, lt-ltb, le-ltb, ltb-false, eq-eqb, ne_eqb}
 use Prim.Native.Nat.{ℕ, zero, suc, ◌+◌, ◌-◌, ◌*◌, ◌/◌, ◌%◌, ◌≤◌, ◌<◌}
-use Rattle.std.proofs.Math.ListN.{get_or-map}
+use Rattle.std.proofs.Math.ListN.{get_or-map, get_or-eq_default}
 use Rattle.std.proofs.lemmas.List.{get_or-take, drop-take, length-take-le}
 use Rattle.std.proofs.Math.Dec.{eqb-suc-zero}
-use Rattle.text.specs.Tests.{and_l, and_r}
+use Rattle.text.specs.Tests.{and_l, and_r, at, Others, others}
+use Rattle.std.proofs.Math.Decide.{dec_lt}
 use Rattle.unwind_info.specs.declared.Operation.{Operation}
 use Rattle.unwind_info.specs.declared.UnwindCode.{UnwindCode}
-use Rattle.unwind_info.specs.declared.OpKind.TheVariants.{Alloc}
-use Rattle.unwind_info.specs.UnwindInfo.{byte, slot_at, long_at, slot_count, part_size, undecodable, code, slots_of}
+use Rattle.unwind_info.specs.declared.Operation.TheVariants.{PushNonVolatile, Alloc, Undecodable}
+use Rattle.unwind_info.specs.UnwindInfo.{byte, slot_at, long_at, slot_count, part_size, code, slots_of}
 use Rattle.unwind_info.specs.UnwindInfo.{operation_of, alloc_large, push_machframe, codes, code_at, within, codes_in, codes_of, op_words}
 use Rattle.unwind_info.specs.UnwindInfo.{info_words, parts_in, parts, part_number}
 
@@ -90,17 +91,57 @@ slots_same f i near near' far far' c =
     ∙ ap (λ (n : ℕ). get_or (1 ∷ n ∷ 1 ∷ 1 ∷ 2 ∷ 3 ∷ 0 ∷ 0 ∷ 2 ∷ 3 ∷ slots_of (push_machframe i) ∷ []) c 0) (alloc (eqb i 0) (eqb i 1))
     ∙ get_or-map slots_of (codes f i near' far') c None
   where
-    alloc : (s t : Bool) → slots_of (cond s (code 2 Alloc 0 (8 * near)) (cond t (code 3 Alloc 0 far) None))
-        ≡ slots_of (cond s (code 2 Alloc 0 (8 * near')) (cond t (code 3 Alloc 0 far') None))
+    alloc : (s t : Bool) → slots_of (cond s (code 2 (Alloc (8 * near))) (cond t (code 3 (Alloc far)) None))
+        ≡ slots_of (cond s (code 2 (Alloc (8 * near'))) (cond t (code 3 (Alloc far')) None))
     alloc true t = refl
     alloc false true = refl
     alloc false false = refl
+
+-- ---- a code by its place
+
+slot_drop : (bs : List ℕ) (i j : ℕ) → slot_at (drop i bs) j ≡ slot_at bs (i + j)
+unfolding slot_at
+slot_drop bs i j = let e : i + (j + 1) ≡ i + j + 1 = omega arith in rw (get_or-drop i bs j 0, get_or-drop i bs (j + 1) 0, e)
+
+long_drop : (bs : List ℕ) (i j : ℕ) → long_at (drop i bs) j ≡ long_at bs (i + j)
+unfolding long_at
+long_drop bs i j = let e : i + (j + 2) ≡ i + j + 2 = omega arith in rw (slot_drop bs i j, slot_drop bs i (j + 2), e)
+
+pub code_drop : (f : ℕ) (bs : List ℕ) (i : ℕ)
+    → code_at f (drop i bs) ≡ get_or (codes f (byte bs (i + 1) / 16) (slot_at bs (i + 2)) (long_at bs (i + 2))) (byte bs (i + 1) % 16) None
+unfolding code_at
+code_drop f bs i = rw (get_or-drop i bs 1 0, slot_drop bs i 2, long_drop bs i 2)
+
+-- the codes that the page names, up to 10
+abbrev named : ℕ → Bool
+named c = ltb c 6 || leb 8 c
+
+-- a code that it does not name, as the last arm of a `match` is told it
+pub no_code : (f i near far c : ℕ) → Others named 11 c → get_or (codes f i near far) c None ≡ None
+unfolding codes
+no_code f i near far c h = elim (dec_lt c 11) [
+  | yes l ↦ is_none (get_or (codes f i near far) c None) (rw (others named 11 c h l) at (at 11 (λ (n : ℕ). named n || is_missing (get_or (codes f i near far) n None)) tt c l))
+  | no l ↦ get_or-eq_default (codes f i near far) None {n = c} (omega arith)
+]
+  where
+    is_missing : Option UnwindCode → Bool
+    is_missing None = true
+    is_missing (Some u) = false
+
+    is_none : (u : Option UnwindCode) → T (is_missing u) → u ≡ None
+    is_none None h = refl
+    is_none (Some u) h = absurd h
 
 -- ---- the operations of a part
 
 -- where n slots are left: none where it runs past them
 abbrev pub taken : ℕ → Option UnwindCode → Option UnwindCode
 taken n c = cond (within n c) c None
+
+-- a push by its byte
+pub push_taken : (bs : List ℕ) (i left b f : ℕ) → 0 < left → b ≡ byte bs (i + 1) → b % 16 ≡ 0 → code 1 (PushNonVolatile (b / 16)) ≡ taken left (code_at f (drop i bs))
+unfolding codes
+push_taken bs i left b f h e z = rw (code_drop f bs i, ← e, z, le-leb 1 left (omega arith))
 
 pub within_slots : (n : ℕ) (c : Option UnwindCode) → T (within n c) → (1 ≤ slots_of c) × (slots_of c ≤ n)
 within_slots n c h = (leb→le 1 (slots_of c) (and_l (leb 1 (slots_of c)) _ h), leb→le (slots_of c) n (and_r (leb 1 (slots_of c)) _ h))
@@ -130,8 +171,8 @@ module _ (f : ℕ) where
 
       go : (t : Bool) → within (suc n) c ≡ t
           → (1 ≤ slots_of c → codes_in k f (suc n - slots_of c) (drop (2 * slots_of c) bs) ≡ codes_in m f (suc n - slots_of c) (drop (2 * slots_of c) bs))
-          → cond t (operation_of c ∷ codes_in k f (suc n - slots_of c) (drop (2 * slots_of c) bs)) (undecodable ∷ [])
-          ≡ cond t (operation_of c ∷ codes_in m f (suc n - slots_of c) (drop (2 * slots_of c) bs)) (undecodable ∷ [])
+          → cond t (operation_of c ∷ codes_in k f (suc n - slots_of c) (drop (2 * slots_of c) bs)) (Undecodable ∷ [])
+          ≡ cond t (operation_of c ∷ codes_in m f (suc n - slots_of c) (drop (2 * slots_of c) bs)) (Undecodable ∷ [])
       go true e ih = ap (λ (l : List Operation). operation_of c ∷ l) (ih (within_slots (suc n) c (rw e tt)).0)
       go false e ih = refl
 
@@ -141,12 +182,12 @@ module _ (f : ℕ) where
   behind n (Some c) bs = codes_in (n - c.slots) f (n - c.slots) (drop (2 * c.slots) bs)
 
   first_of : (c : Option UnwindCode) (n : ℕ) (bs : List ℕ)
-      → cond (within (suc n) c) (operation_of c ∷ codes_in n f (suc n - slots_of c) (drop (2 * slots_of c) bs)) (undecodable ∷ [])
+      → cond (within (suc n) c) (operation_of c ∷ codes_in n f (suc n - slots_of c) (drop (2 * slots_of c) bs)) (Undecodable ∷ [])
       ≡ operation_of (taken (suc n) c) ∷ behind (suc n) (taken (suc n) c) bs
   first_of None n bs = refl
   first_of (Some c) n bs = go (within (suc n) (Some c)) refl
     where
-      go : (t : Bool) → within (suc n) (Some c) ≡ t → cond t (c.operation ∷ codes_in n f (suc n - c.slots) (drop (2 * c.slots) bs)) (undecodable ∷ [])
+      go : (t : Bool) → within (suc n) (Some c) ≡ t → cond t (c.operation ∷ codes_in n f (suc n - c.slots) (drop (2 * c.slots) bs)) (Undecodable ∷ [])
           ≡ operation_of (cond t (Some c) None) ∷ behind (suc n) (cond t (Some c) None) bs
       go true e =
           let s = within_slots (suc n) (Some c) (rw e tt) in
@@ -167,7 +208,7 @@ module _ (f : ℕ) where
   operations_none = refl
 
   -- the first one, and those behind it: none behind one that is undecodable
-  pub operations_last : (bs : List ℕ) → 2 ≤ length bs → taken (length bs / 2) (code_at f bs) ≡ None → operations bs ≡ undecodable ∷ []
+  pub operations_last : (bs : List ℕ) → 2 ≤ length bs → taken (length bs / 2) (code_at f bs) ≡ None → operations bs ≡ Undecodable ∷ []
   operations_last bs h e = codes_first (length bs / 2) bs (omega arith) ∙ rw e refl
 
   pub operations_first : {c : UnwindCode} (bs : List ℕ) → 2 ≤ length bs → taken (length bs / 2) (code_at f bs) ≡ Some c
@@ -187,7 +228,7 @@ codes_few (suc k) f (suc n) bs = go (within (suc n) c) refl (codes_few k f (suc 
     c = code_at f bs
 
     go : (t : Bool) → within (suc n) c ≡ t → length (codes_in k f (suc n - slots_of c) (drop (2 * slots_of c) bs)) ≤ suc n - slots_of c
-        → length (cond t (operation_of c ∷ codes_in k f (suc n - slots_of c) (drop (2 * slots_of c) bs)) (undecodable ∷ [])) ≤ suc n
+        → length (cond t (operation_of c ∷ codes_in k f (suc n - slots_of c) (drop (2 * slots_of c) bs)) (Undecodable ∷ [])) ≤ suc n
     go true e ih = omega (arith, ih, within_slots (suc n) c (rw e tt))
     go false e ih = omega arith
 
@@ -247,7 +288,7 @@ codes_cut (suc k) f (suc n) bs h =
     go : (t : Bool) → within (suc n) c ≡ t
         → (2 * (suc n - slots_of c) ≤ length (drop (2 * slots_of c) bs)
         → codes_in k f (suc n - slots_of c) (take (2 * (suc n - slots_of c)) (drop (2 * slots_of c) bs)) ≡ rest bs c)
-        → cond (within (suc n) cut) (operation_of cut ∷ rest (take (2 * suc n) bs) cut) (undecodable ∷ []) ≡ cond (within (suc n) c) (operation_of c ∷ rest bs c) (undecodable ∷ [])
+        → cond (within (suc n) cut) (operation_of cut ∷ rest (take (2 * suc n) bs) cut) (Undecodable ∷ []) ≡ cond (within (suc n) c) (operation_of c ∷ rest bs c) (Undecodable ∷ [])
     go true e ih =
         let s = within_slots (suc n) c (rw e tt) in
         let z : 2 * suc n ≡ 2 * slots_of c + 2 * (suc n - slots_of c) = omega (arith, s) in

@@ -4,8 +4,9 @@ use Rattle.std.specs.Prelude.{◌≡◌, Bool, true, false, cond, Option, None, 
 use Rattle.std.proofs.Math.Path.{refl}
 use Rattle.std.proofs.Common.{sym, ap, ◌∙◌, subst, arith, get_or-take, get_or-drop, drop-drop}
 use Rattle.unwind_info.specs.declared.Operation.{Operation}
+use Rattle.unwind_info.specs.declared.Operation.TheVariants.{Undecodable}
 use Rattle.unwind_info.specs.declared.UnwindCode.{UnwindCode}
-use Rattle.unwind_info.specs.UnwindInfo.{byte, slot_at, long_at, version, slot_count, part_size, undecodable, slots_of, operation_of, codes, code_at, within, codes_in, codes_of, op_words}
+use Rattle.unwind_info.specs.UnwindInfo.{byte, slot_at, long_at, version, slot_count, part_size, slots_of, operation_of, codes, code_at, within, codes_in, codes_of, op_words}
 use Rattle.unwind_info.specs.UnwindInfo.{info_words, parts_in, infos_words, x64_body, part_number, first_refused, x64_number, decoded}
 use Rattle.unwind_info.specs.Index.{same_entry}
 
@@ -82,7 +83,7 @@ same_codes zero f n bs cs a = refl
 same_codes (suc k) f zero bs cs a = refl
 same_codes (suc k) f (suc n) bs cs a =
     go (within (suc n) c) refl (λ h. same_codes k f (suc n - slots_of c) (drop (2 * slots_of c) bs) (drop (2 * slots_of c) cs) (a.1 h))
-    ∙ ap (λ (u : Option UnwindCode). cond (within (suc n) u) (operation_of u ∷ codes_in k f (suc n - slots_of u) (drop (2 * slots_of u) cs)) (undecodable ∷ [])) (same_code f bs cs a.0)
+    ∙ ap (λ (u : Option UnwindCode). cond (within (suc n) u) (operation_of u ∷ codes_in k f (suc n - slots_of u) (drop (2 * slots_of u) cs)) (Undecodable ∷ [])) (same_code f bs cs a.0)
   where
     c : Option UnwindCode
     c = code_at f bs
@@ -91,7 +92,7 @@ same_codes (suc k) f (suc n) bs cs a =
     rest l = codes_in k f (suc n - slots_of c) (drop (2 * slots_of c) l)
 
     go : (t : Bool) → within (suc n) c ≡ t → (T (within (suc n) c) → rest bs ≡ rest cs)
-        → cond t (operation_of c ∷ rest bs) (undecodable ∷ []) ≡ cond t (operation_of c ∷ rest cs) (undecodable ∷ [])
+        → cond t (operation_of c ∷ rest bs) (Undecodable ∷ []) ≡ cond t (operation_of c ∷ rest cs) (Undecodable ∷ [])
     go true e ih = ap (λ (l : List Operation). operation_of c ∷ l) (ih (rw e tt))
     go false e ih = refl
 

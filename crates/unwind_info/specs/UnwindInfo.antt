@@ -2,9 +2,8 @@
 -- A byte that is missing reads 0.
 use Rattle.std.specs.Prelude.{Bool, cond, ◌&&◌, List, [], ◌∷◌, ◌++◌, ℕ, zero, suc, ◌+◌, ◌-◌, ◌*◌, ◌/◌, ◌%◌, Option, Some, None, length, get_or, drop, eqb, ltb, leb}
 use Rattle.fill.specs.Fill.{Fill, refused, roomed}
-use Rattle.unwind_info.specs.declared.OpKind.{OpKind}
-use Rattle.unwind_info.specs.declared.OpKind.TheVariants.{PushNonVolatile, Alloc, SaveRsp, SaveFp, SetFpRegister, PushMachineFrame, Other, Undecodable}
 use Rattle.unwind_info.specs.declared.Operation.{Operation}
+use Rattle.unwind_info.specs.declared.Operation.TheVariants.{PushNonVolatile, Alloc, SaveRsp, SaveFp, SetFpRegister, PushMachineFrame, Other, Undecodable}
 use Rattle.unwind_info.specs.declared.UnwindCode.{UnwindCode}
 
 -- ---- bytes and slots
@@ -38,55 +37,47 @@ frame_offset bs = byte bs 3 / 16 * 16
 abbrev pub part_size : List ℕ → ℕ
 part_size bs = 4 + 2 * slot_count bs
 
--- ---- operations
-
-abbrev pub op : OpKind → ℕ → ℕ → Operation
-op k r v = record { kind = k; register = r; value = v }
-
--- what becomes of a code or an info that the page does not define, and of slots that run past the count
-abbrev pub undecodable : Operation
-undecodable = op Undecodable 0 0
-
 -- ---- operation codes
 
--- a code: its slots; kind, register and value of the operation. None is one that the page does not define
-abbrev pub code : ℕ → OpKind → ℕ → ℕ → Option UnwindCode
-code s k r v = Some (record { slots = s; operation = op k r v })
+-- a code: its slots and the operation. None is one that the page does not define
+abbrev pub code : ℕ → Operation → Option UnwindCode
+code s o = Some (record { slots = s; operation = o })
 
 abbrev pub slots_of : Option UnwindCode → ℕ
 slots_of None = 0
 slots_of (Some c) = c.slots
 
+-- kind 8 for a code or an info that the page does not define, and for slots that run past the count
 abbrev pub operation_of : Option UnwindCode → Operation
-operation_of None = undecodable
+operation_of None = Undecodable
 operation_of (Some c) = c.operation
 
 -- saves are relative to the frame register where there is one
-abbrev pub save_kind : ℕ → OpKind
-save_kind f = cond (eqb f 0) SaveRsp SaveFp
+abbrev pub save : ℕ → ℕ → ℕ → Operation
+save f r v = cond (eqb f 0) (SaveRsp r v) (SaveFp r v)
 
 -- info 0: one slot, in units of 8; info 1: two slots as they are
 abbrev pub alloc_large : ℕ → ℕ → ℕ → Option UnwindCode
-alloc_large i near far = cond (eqb i 0) (code 2 Alloc 0 (8 * near)) (cond (eqb i 1) (code 3 Alloc 0 far) None)
+alloc_large i near far = cond (eqb i 0) (code 2 (Alloc (8 * near))) (cond (eqb i 1) (code 3 (Alloc far)) None)
 
 -- info 1: with an error code; info 0: without
 abbrev pub push_machframe : ℕ → Option UnwindCode
-push_machframe i = cond (leb i 1) (code 1 PushMachineFrame 0 i) None
+push_machframe i = cond (leb i 1) (code 1 (PushMachineFrame (eqb i 1))) None
 
--- the page's table by operation code, each with slots, kind, register and value: f the frame register, i the info, near the slot behind the
+-- the page's table by operation code, each with slots and operation: f the frame register, i the info, near the slot behind the
 -- code's own, far the two slots behind it
 unfoldable pub codes : ℕ → ℕ → ℕ → ℕ → List (Option UnwindCode)
 codes f i near far =
-    code 1 PushNonVolatile i 0  -- 0 PUSH_NONVOL
+    code 1 (PushNonVolatile i)  -- 0 PUSH_NONVOL
     ∷ alloc_large i near far  -- 1 ALLOC_LARGE
-    ∷ code 1 Alloc 0 (8 * i + 8)  -- 2 ALLOC_SMALL
-    ∷ code 1 SetFpRegister 0 0  -- 3 SET_FPREG
-    ∷ code 2 (save_kind f) i (8 * near)  -- 4 SAVE_NONVOL
-    ∷ code 3 (save_kind f) i far  -- 5 SAVE_NONVOL_FAR
+    ∷ code 1 (Alloc (8 * i + 8))  -- 2 ALLOC_SMALL
+    ∷ code 1 SetFpRegister  -- 3 SET_FPREG
+    ∷ code 2 (save f i (8 * near))  -- 4 SAVE_NONVOL
+    ∷ code 3 (save f i far)  -- 5 SAVE_NONVOL_FAR
     ∷ None  -- 6
     ∷ None  -- 7
-    ∷ code 2 Other 0 0  -- 8 SAVE_XMM128
-    ∷ code 3 Other 0 0  -- 9 SAVE_XMM128_FAR
+    ∷ code 2 Other  -- 8 SAVE_XMM128
+    ∷ code 3 Other  -- 9 SAVE_XMM128_FAR
     ∷ push_machframe i  -- 10 PUSH_MACHFRAME
     ∷ []  -- 11 to 15
 
@@ -105,7 +96,7 @@ codes_in zero f n bs = []
 codes_in (suc k) f zero bs = []
 codes_in (suc k) f (suc n) bs =
     let c = code_at f bs in
-    cond (within (suc n) c) (operation_of c ∷ codes_in k f (suc n - slots_of c) (drop (2 * slots_of c) bs)) (undecodable ∷ [])
+    cond (within (suc n) c) (operation_of c ∷ codes_in k f (suc n - slots_of c) (drop (2 * slots_of c) bs)) (Undecodable ∷ [])
 
 -- those of a part
 unfoldable pub codes_of : List ℕ → List Operation
@@ -113,20 +104,41 @@ codes_of bs = codes_in (slot_count bs) (frame_register bs) (slot_count bs) (drop
 
 -- ---- the body's words
 
--- a kind's number (docs/BOOK.md)
-abbrev pub kind_number : OpKind → ℕ
-kind_number PushNonVolatile = 1
-kind_number Alloc = 2
-kind_number SaveRsp = 3
-kind_number SaveFp = 4
-kind_number SetFpRegister = 5
-kind_number PushMachineFrame = 6
-kind_number Other = 7
-kind_number Undecodable = 8
+-- the number of an operation's kind (docs/BOOK.md)
+abbrev pub kind_of : Operation → ℕ
+kind_of (PushNonVolatile r) = 1
+kind_of (Alloc v) = 2
+kind_of (SaveRsp r v) = 3
+kind_of (SaveFp r v) = 4
+kind_of SetFpRegister = 5
+kind_of (PushMachineFrame e) = 6
+kind_of Other = 7
+kind_of Undecodable = 8
+
+-- its register, and its value; 0 where the kind uses none
+abbrev pub register_of : Operation → ℕ
+register_of (PushNonVolatile r) = r
+register_of (Alloc v) = 0
+register_of (SaveRsp r v) = r
+register_of (SaveFp r v) = r
+register_of SetFpRegister = 0
+register_of (PushMachineFrame e) = 0
+register_of Other = 0
+register_of Undecodable = 0
+
+abbrev pub value_of : Operation → ℕ
+value_of (PushNonVolatile r) = 0
+value_of (Alloc v) = v
+value_of (SaveRsp r v) = v
+value_of (SaveFp r v) = v
+value_of SetFpRegister = 0
+value_of (PushMachineFrame e) = cond e 1 0
+value_of Other = 0
+value_of Undecodable = 0
 
 -- kind, register, value
 abbrev pub words_of : Operation → List ℕ
-words_of o = kind_number o.kind ∷ o.register ∷ o.value ∷ []
+words_of o = kind_of o ∷ register_of o ∷ value_of o ∷ []
 
 -- of each
 unfoldable pub op_words : List Operation → List ℕ

@@ -18,12 +18,11 @@ use Rattle.refusal.specs.Refusal.{answer_number}
 use Rattle.x64.specs.X64.{op_fits, ops_fit, info_fits, infos_fit, x64_layout, x64_skipped, x64_reach, x64_judged, in_reach, set_count, chain}
 use Rattle.fill.specs.Fill.{Fills}
 use Rattle.fill.specs.Fill.Laws.{count, filled_alike}
-use Rattle.unwind_info.specs.declared.OpKind.{OpKind}
-use Rattle.unwind_info.specs.declared.OpKind.TheVariants.{Alloc, SaveRsp, SaveFp, PushMachineFrame}
 use Rattle.unwind_info.specs.declared.Operation.{Operation}
+use Rattle.unwind_info.specs.declared.Operation.TheVariants.{Alloc, SaveRsp, SaveFp, PushMachineFrame, Undecodable}
 use Rattle.unwind_info.specs.declared.UnwindCode.{UnwindCode}
-use Rattle.unwind_info.specs.UnwindInfo.{byte, slot_at, long_at, slot_count, frame_register, frame_offset, part_size, undecodable, code, slots_of, operation_of, save_kind}
-use Rattle.unwind_info.specs.UnwindInfo.{alloc_large, push_machframe, codes, code_at, within, codes_in, codes_of, kind_number, words_of, op_words, info_words, parts_in, parts, infos_words, x64_body}
+use Rattle.unwind_info.specs.UnwindInfo.{byte, slot_at, long_at, slot_count, frame_register, frame_offset, part_size, code, slots_of, operation_of, save}
+use Rattle.unwind_info.specs.UnwindInfo.{alloc_large, push_machframe, codes, code_at, within, codes_in, codes_of, kind_of, register_of, value_of, words_of, op_words, info_words, parts_in, parts, infos_words, x64_body}
 use Rattle.unwind_info.specs.UnwindInfo.{first_refused, count_number, x64_number, decoded}
 use Rattle.unwind_info.specs.Index.{codes_few, ops_length, info_length, zero_both}
 
@@ -64,13 +63,13 @@ unused_zero k r v =
 
 module _ (p : ℕ → ℕ → ℕ → Bool) where
   abbrev pub test : Operation → Bool
-  test o = p (kind_number o.kind) o.register o.value
+  test o = p (kind_of o) (register_of o) (value_of o)
 
   abbrev pub test_code : Option UnwindCode → Bool
   test_code c = test (operation_of c)
 
   -- an entry of a table that passes throughout passes
-  entry_passes : (cs : List (Option UnwindCode)) (c : ℕ) → T (test undecodable) → T (all test_code cs) → T (test_code (get_or cs c None))
+  entry_passes : (cs : List (Option UnwindCode)) (c : ℕ) → T (test Undecodable) → T (all test_code cs) → T (test_code (get_or cs c None))
   entry_passes [] c d h = d
   entry_passes (u ∷ cs) zero d h = and_l (test_code u) _ h
   entry_passes (u ∷ cs) (suc c) d h = entry_passes cs c d (and_r (test_code u) _ h)
@@ -79,20 +78,20 @@ module _ (p : ℕ → ℕ → ℕ → Bool) where
   abbrev pub Passes : Type 0
   Passes = (f i near far : ℕ) → i < 16 → T (all test_code (codes f i near far))
 
-  code_passes : T (test undecodable) → Passes → (f : ℕ) (bs : List ℕ) → T (are_bytes bs) → T (test_code (code_at f bs))
+  code_passes : T (test Undecodable) → Passes → (f : ℕ) (bs : List ℕ) → T (are_bytes bs) → T (test_code (code_at f bs))
   unfolding code_at
   code_passes d t f bs h =
       entry_passes (codes f (byte bs 1 / 16) (slot_at bs 2) (long_at bs 2)) (byte bs 1 % 16) d
       (t f (byte bs 1 / 16) (slot_at bs 2) (long_at bs 2) (omega (arith, byte_small bs 1 h)))
 
-  pub codes_pass : T (test undecodable) → Passes → (k f n : ℕ) (bs : List ℕ) → T (are_bytes bs) → T (all test (codes_in k f n bs))
+  pub codes_pass : T (test Undecodable) → Passes → (k f n : ℕ) (bs : List ℕ) → T (are_bytes bs) → T (all test (codes_in k f n bs))
   unfolding codes_in
   codes_pass d t zero f n bs h = tt
   codes_pass d t (suc k) f zero bs h = tt
   codes_pass d t (suc k) f (suc n) bs h =
-      either (all test) (within (suc n) c) (operation_of c ∷ codes_in k f (suc n - slots_of c) (drop (2 * slots_of c) bs)) (undecodable ∷ [])
+      either (all test) (within (suc n) c) (operation_of c ∷ codes_in k f (suc n - slots_of c) (drop (2 * slots_of c) bs)) (Undecodable ∷ [])
       (both (test_code c) _ (code_passes d t f bs h) (codes_pass d t k f (suc n - slots_of c) (drop (2 * slots_of c) bs) (drop_bytes (2 * slots_of c) bs h)))
-      (both (test undecodable) true d tt)
+      (both (test Undecodable) true d tt)
     where
       c : Option UnwindCode
       c = code_at f bs
@@ -120,14 +119,16 @@ module _ (p : ℕ → ℕ → ℕ → Bool) where
   unfolding ops_are op_words
   ops_pass front rest [] h = tt
   ops_pass front rest (o ∷ os) h =
-      let k = kind_number o.kind in
+      let k = kind_of o in
+      let r = register_of o in
+      let v = value_of o in
       rw (
-        first_word front k o.register o.value (op_words os ++ rest),
-        second_word front k o.register o.value (op_words os ++ rest),
-        third_word front k o.register o.value (op_words os ++ rest),
+        first_word front k r v (op_words os ++ rest),
+        second_word front k r v (op_words os ++ rest),
+        third_word front k r v (op_words os ++ rest),
       )
       (both (test p o) _ (and_l (test p o) _ h)
-      (behind_three front k o.register o.value (op_words os ++ rest) (λ ws a. T (ops_are p ws a (length os)))
+      (behind_three front k r v (op_words os ++ rest) (λ ws a. T (ops_are p ws a (length os)))
       (ops_pass (front ++ words_of o) rest os (and_r (test p o) _ h))))
 
   -- those of an info
@@ -159,7 +160,7 @@ parts_bytes (suc k) [] h = tt
 parts_bytes (suc k) (b ∷ bs) h =
     both (are_bytes (b ∷ bs)) _ h (parts_bytes k (drop (part_size (b ∷ bs)) (b ∷ bs)) (drop_bytes (part_size (b ∷ bs)) (b ∷ bs) h))
 
-module _ (p : ℕ → ℕ → ℕ → Bool) (d : T (test p undecodable)) (t : Passes p) where
+module _ (p : ℕ → ℕ → ℕ → Bool) (d : T (test p Undecodable)) (t : Passes p) where
   part_passes : (q : List ℕ) → T (are_bytes q) → T (all (test p) (codes_of q))
   unfolding codes_of
   part_passes q h = codes_pass p d t (slot_count q) (frame_register q) (slot_count q) (drop 4 q) (drop_bytes 4 q h)
@@ -182,19 +183,19 @@ module _ (p : ℕ → ℕ → ℕ → Bool) (d : T (test p undecodable)) (t : Pa
 unused_table : Passes unused_zero
 unfolding codes unused_zero
 unused_table f i near far h =
-    both (test_code unused_zero (alloc_large i near far)) _ alloc (both (test_code unused_zero (code 2 (save_kind f) i (8 * near))) _ (save (8 * near))
-    (both (test_code unused_zero (code 3 (save_kind f) i far)) _ (save far) (both (test_code unused_zero (push_machframe i)) true frame tt)))
+    both (test_code unused_zero (alloc_large i near far)) _ alloc (both (test_code unused_zero (code 2 (save f i (8 * near)))) _ (kept (8 * near))
+    (both (test_code unused_zero (code 3 (save f i far))) _ (kept far) (both (test_code unused_zero (push_machframe i)) true frame tt)))
   where
     alloc : T (test_code unused_zero (alloc_large i near far))
     alloc =
-        either (test_code unused_zero) (eqb i 0) (code 2 Alloc 0 (8 * near)) (cond (eqb i 1) (code 3 Alloc 0 far) None) tt
-        (either (test_code unused_zero) (eqb i 1) (code 3 Alloc 0 far) None tt tt)
+        either (test_code unused_zero) (eqb i 0) (code 2 (Alloc (8 * near))) (cond (eqb i 1) (code 3 (Alloc far)) None) tt
+        (either (test_code unused_zero) (eqb i 1) (code 3 (Alloc far)) None tt tt)
 
-    save : (v : ℕ) → T (unused_zero (kind_number (save_kind f)) i v)
-    save v = either (λ (k : OpKind). unused_zero (kind_number k) i v) (eqb f 0) SaveRsp SaveFp tt tt
+    kept : (v : ℕ) → T (test unused_zero (save f i v))
+    kept v = either (test unused_zero) (eqb f 0) (SaveRsp i v) (SaveFp i v) tt tt
 
     frame : T (test_code unused_zero (push_machframe i))
-    frame = either (test_code unused_zero) (leb i 1) (code 1 PushMachineFrame 0 i) None tt tt
+    frame = either (test_code unused_zero) (leb i 1) (code 1 (PushMachineFrame (eqb i 1))) None tt tt
 
 -- words that a kind does not use are 0
 pub unused_zero_lem : (b e a : ℕ) (bs : List ℕ) → T (are_bytes bs) → T (infos_are unused_zero (x64_body b e a bs) (length (parts bs)) 4)
@@ -206,22 +207,23 @@ unused_zero_lem b e a bs h = body_passes unused_zero tt unused_table b e a bs h
 fits_table : Passes op_fits
 unfolding codes op_fits
 fits_table f i near far h =
-    both (ltb i 16) _ small (both (test_code op_fits (alloc_large i near far)) _ alloc (both (test_code op_fits (code 2 (save_kind f) i (8 * near))) _ (save (8 * near))
-    (both (test_code op_fits (code 3 (save_kind f) i far)) _ (save far) (both (test_code op_fits (push_machframe i)) true (frame (leb i 1) refl) tt))))
+    both (ltb i 16) _ small (both (test_code op_fits (alloc_large i near far)) _ alloc (both (test_code op_fits (code 2 (save f i (8 * near)))) _ (kept (8 * near))
+    (both (test_code op_fits (code 3 (save f i far))) _ (kept far) (both (test_code op_fits (push_machframe i)) true (frame (leb i 1) (eqb i 1)) tt))))
   where
     small : T (ltb i 16)
     small = lt→ltb i 16 h
 
     alloc : T (test_code op_fits (alloc_large i near far))
     alloc =
-        either (test_code op_fits) (eqb i 0) (code 2 Alloc 0 (8 * near)) (cond (eqb i 1) (code 3 Alloc 0 far) None) tt
-        (either (test_code op_fits) (eqb i 1) (code 3 Alloc 0 far) None tt tt)
+        either (test_code op_fits) (eqb i 0) (code 2 (Alloc (8 * near))) (cond (eqb i 1) (code 3 (Alloc far)) None) tt
+        (either (test_code op_fits) (eqb i 1) (code 3 (Alloc far)) None tt tt)
 
-    save : (v : ℕ) → T (op_fits (kind_number (save_kind f)) i v)
-    save v = either (λ (k : OpKind). op_fits (kind_number k) i v) (eqb f 0) SaveRsp SaveFp small small
+    kept : (v : ℕ) → T (test op_fits (save f i v))
+    kept v = either (test op_fits) (eqb f 0) (SaveRsp i v) (SaveFp i v) small small
 
-    frame : (t : Bool) → leb i 1 ≡ t → T (test_code op_fits (cond t (code 1 PushMachineFrame 0 i) None))
-    frame true e = rw e tt
+    frame : (t e : Bool) → T (test_code op_fits (cond t (code 1 (PushMachineFrame e)) None))
+    frame true true = tt
+    frame true false = tt
     frame false e = tt
 
 fit_are : (ws : List ℕ) (a n : ℕ) → ops_fit ws a n ≡ ops_are op_fits ws a n
@@ -229,7 +231,7 @@ unfolding ops_fit ops_are
 fit_are ws a zero = refl
 fit_are ws a (suc n) = ap (λ (t : Bool). op_fits (word ws a) (word ws (a + 1)) (word ws (a + 2)) && t) (fit_are ws (a + 3) n)
 
-undecodable_fits : T (test op_fits undecodable)
+undecodable_fits : T (test op_fits Undecodable)
 unfolding op_fits
 undecodable_fits = tt
 

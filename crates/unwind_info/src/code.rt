@@ -1,13 +1,13 @@
 // The unwind codes of a part: a slot each, and the one or two behind it that hold its number.
 ghost use Rattle.std.specs.Prelude.{◌≡◌, ◌≤◌, ◌<◌, ◌/◌, ◌%◌, cond, leb, Some, None, IfSome, length};
 ghost use Rattle.std.specs.Iterator.{YieldsFirst, item_count};
-ghost use Rattle.unwind_info.specs.UnwindInfo.{slot_at, long_at, code, save_kind, alloc_large, push_machframe, code_at};
+ghost use Rattle.unwind_info.specs.UnwindInfo.{slot_at, long_at, code, save, alloc_large, push_machframe, code_at};
 ghost use Rattle.unwind_info.specs.Index.{taken};
 
-use crate::OpKind::{
+use crate::Operation::{
     Alloc, Other, PushMachineFrame, PushNonVolatile, SaveFp, SaveRsp, SetFpRegister, Undecodable,
 };
-use crate::{OpKind, Operation, UnwindCode};
+use crate::{Operation, UnwindCode};
 
 // The operation codes (low 4 bits).
 const PUSH_NONVOL: u8 = 0;
@@ -35,17 +35,10 @@ const UNIT: u32 = 8;
 pub(crate) const SLOT: usize = 2;
 
 // An unwind code by its slots and its operation.
-fn code(slots: usize, kind: OpKind, register: u32, value: u32) -> Option<UnwindCode>
-    ensures { result ≡ code slots kind register value }
+fn code(slots: usize, operation: Operation) -> UnwindCode
+    ensures { Some result ≡ code slots operation }
 {
-    Some(UnwindCode {
-        slots,
-        operation: Operation {
-            kind,
-            register,
-            value,
-        },
-    })
+    UnwindCode { slots, operation }
 }
 
 // The number in the slot behind the first, and in the two behind it, the low byte first; none where they are past the part's end.
@@ -71,13 +64,13 @@ fn far(slots: &[u8]) -> Option<u32>
 }
 
 // A save lies relative to the frame register wherever the part has one.
-fn save_kind(frame: u32) -> OpKind
-    ensures { result ≡ save_kind frame }
+fn save(frame: u32, register: u32, value: u32) -> Operation
+    ensures { result ≡ save frame register value }
 {
     if frame == 0 {
-        return SaveRsp;
+        return SaveRsp(register, value);
     }
-    SaveFp
+    SaveFp(register, value)
 }
 
 // Info 0 has one slot in units of 8 behind it, info 1 two as they are.
@@ -85,8 +78,8 @@ fn alloc_large(slots: &[u8], info: u32) -> Option<UnwindCode>
     ensures { result ≡ taken (length slots.now / 2) (alloc_large info (slot_at slots.now 2) (long_at slots.now 2)) }
 {
     match info {
-        0 => code(2, Alloc, 0, UNIT * near(slots)?),
-        1 => code(3, Alloc, 0, far(slots)?),
+        0 => Some(code(2, Alloc(UNIT * near(slots)?))),
+        1 => Some(code(3, Alloc(far(slots)?))),
         _ => None,
     }
 }
@@ -96,7 +89,7 @@ fn push_machframe(info: u32) -> Option<UnwindCode>
     ensures { result ≡ push_machframe info }
 {
     if info <= 1 {
-        return code(1, PushMachineFrame, 0, info);
+        return Some(code(1, PushMachineFrame(info == 1)));
     }
     None
 }
@@ -110,14 +103,14 @@ fn code_at(slots: &[u8], frame: u32) -> Option<UnwindCode>
     let b = slots[1];
     let info = u32::from(b / 16);
     match b % 16 {
-        PUSH_NONVOL => code(1, PushNonVolatile, info, 0),
+        PUSH_NONVOL => Some(code(1, PushNonVolatile(info))),
         ALLOC_LARGE => alloc_large(slots, info),
-        ALLOC_SMALL => code(1, Alloc, 0, UNIT * info + UNIT),
-        SET_FPREG => code(1, SetFpRegister, 0, 0),
-        SAVE_NONVOL => code(2, save_kind(frame), info, UNIT * near(slots)?),
-        SAVE_NONVOL_FAR => code(3, save_kind(frame), info, far(slots)?),
-        SAVE_XMM128 => near(slots).and(code(2, Other, 0, 0)),
-        SAVE_XMM128_FAR => far(slots).and(code(3, Other, 0, 0)),
+        ALLOC_SMALL => Some(code(1, Alloc(UNIT * info + UNIT))),
+        SET_FPREG => Some(code(1, SetFpRegister)),
+        SAVE_NONVOL => Some(code(2, save(frame, info, UNIT * near(slots)?))),
+        SAVE_NONVOL_FAR => Some(code(3, save(frame, info, far(slots)?))),
+        SAVE_XMM128 => near(slots).and(Some(code(2, Other))),
+        SAVE_XMM128_FAR => far(slots).and(Some(code(3, Other))),
         PUSH_MACHFRAME => push_machframe(info),
         _ => None,
     }
@@ -151,11 +144,7 @@ impl<'a> Iterator for Operations<'a> {
             }
             None => {
                 self.slots = &[];
-                Some(Operation {
-                    kind: Undecodable,
-                    register: 0,
-                    value: 0,
-                })
+                Some(Undecodable)
             }
         }
     }

@@ -3,20 +3,17 @@ ghost use Rattle.std.specs.Prelude.{◌≡◌, ◌+◌, ◌*◌, ◌^◌, ◌≤
 ghost use Rattle.std.specs.Iterator.{YieldsFirstBy, item_count};
 ghost use Rattle.text.specs.Text.{Put};
 ghost use Rattle.refusal.specs.Refusal.{number};
-ghost use Rattle.unwind_info.specs.UnwindInfo.{part_size, codes_of, info_words, infos_words, parts as parts_of, first_refused, x64_number};
+ghost use Rattle.unwind_info.specs.UnwindInfo.{infos_words, parts as parts_of, first_refused, x64_number};
 
-use crate::part::{checked_slots, frame_offset, frame_register, operations, part_size};
-use fill::put_words;
+use crate::part::{HEAD, OP_WORDS, Part};
 use refusal::Refusal;
 
 const MOST_PARTS: usize = 32;
 
-// The words before an info's operations, and of an operation.
-const HEAD: usize = 3;
+// The words of a body before its infos.
+const BEFORE_INFOS: usize = 4;
 
-const OP_WORDS: usize = 3;
-
-// Bytes whose parts are all of version 1 and there, each as what stands from it on.
+// Bytes whose parts are all of version 1 and there.
 #[derive(Clone, Copy)]
 struct Parts<'a> {
     bytes: &'a [u8],
@@ -24,18 +21,18 @@ struct Parts<'a> {
 }
 
 impl<'a> Iterator for Parts<'a> {
-    type Item = &'a [u8];
+    type Item = Part<'a>;
 
-    ghost next_gives = { YieldsFirstBy (λ x. x.now) (λ s. parts_of s.bytes.now) };
+    ghost next_gives = { YieldsFirstBy (λ x. x.bytes.now) (λ s. parts_of s.bytes.now) };
 
     ghost remaining = { item_count (λ s. parts_of s.bytes.now) };
 
-    fn next(&mut self) -> Option<&'a [u8]> {
-        let part = self.bytes;
-        if part.is_empty() {
+    fn next(&mut self) -> Option<Part<'a>> {
+        if self.bytes.is_empty() {
             return None;
         }
-        self.bytes = &part[part_size(part)..];
+        let part = Part { bytes: self.bytes };
+        self.bytes = part.behind();
         Some(part)
     }
 }
@@ -62,22 +59,21 @@ impl<'a> Infos<'a> {
         let mut rest = bytes;
         let mut parts = 0;
         let mut slots = 0;
+        // no `for`: an iterator of parts that may be turned away would stand for this one loop alone
         while !rest.is_empty() {
-            slots += checked_slots(rest)?;
+            let part = Part::read(rest)?;
+            slots += part.slot_count();
             parts += 1;
-            rest = &rest[part_size(rest)..];
+            rest = part.behind();
         }
-        if parts < 1 {
-            return Err(Refusal::Layout);
+        match parts {
+            1..=MOST_PARTS => Ok(Infos {
+                bytes,
+                parts,
+                slots,
+            }),
+            _ => Err(Refusal::Layout),
         }
-        if MOST_PARTS < parts {
-            return Err(Refusal::Layout);
-        }
-        Ok(Infos {
-            bytes,
-            parts,
-            slots,
-        })
     }
 
     // The parts, one after the other.
@@ -91,16 +87,16 @@ impl<'a> Infos<'a> {
     fn most_words(self) -> usize
         ensures { result ≡ 4 + 3 * self.entry.parts + 3 * self.entry.slots }
     {
-        4 + HEAD * self.parts + OP_WORDS * self.slots
+        BEFORE_INFOS + HEAD * self.parts + OP_WORDS * self.slots
     }
 
     // How many it has.
     fn count_words(self) -> usize
         ensures { result ≡ 4 + length (infos_words (parts_of self.entry.bytes.now)) }
     {
-        let mut words = 4;
+        let mut words = BEFORE_INFOS;
         for part in self.parts() {
-            words += part_words(part);
+            words += part.count_words();
         }
         words
     }
@@ -122,38 +118,8 @@ impl<'a> Infos<'a> {
     {
         let mut p = at;
         for part in self.parts() {
-            p = put_part(out, p, part);
+            p = part.put(out, p);
         }
         p
     }
-}
-
-// How many operations a part has.
-fn count_ops(part: &[u8]) -> usize
-    requires { part_size part.now ≤ length part.now }
-    ensures { (result ≡ length (codes_of part.now)) × (result < 256) }
-{
-    operations(part).count()
-}
-
-// How many words its info has.
-fn part_words(part: &[u8]) -> usize
-    requires { part_size part.now ≤ length part.now }
-    ensures { (result ≡ length (info_words part.now)) × (result ≤ 768) }
-{
-    HEAD + OP_WORDS * count_ops(part)
-}
-
-// An info: frame register, frame offset, operation count, operations. The count is stored once they are known.
-fn put_part(out: &mut [u32], at: usize, part: &[u8]) -> usize
-    requires { (part_size part.now ≤ length part.now) × (at + length (info_words part.now) ≤ length out.old) }
-    ensures { Put out.old at (info_words part.now) out.new result }
-{
-    let first = put_words(out, at, &[frame_register(part), frame_offset(part), 0]);
-    let mut p = first;
-    for op in operations(part) {
-        p = put_words(out, p, &op.words());
-    }
-    out[first - 1] = ((p - first) / OP_WORDS) as u32;
-    p
 }

@@ -23,36 +23,45 @@ ghost use Rattle.unwind_info.specs.UnwindInfo.{decoded};
 use fill::put_words;
 use infos::Infos;
 use refusal::Refusal;
+use x64::kinds::{
+    ALLOC, OTHER, PUSH_MACHINE_FRAME, PUSH_NONVOLATILE, SAVE_FP, SAVE_RSP, SET_FP_REGISTER,
+    UNDECODABLE,
+};
 
-// The kinds of operations in a body, by their numbers of docs/BOOK.md.
+// What an unwind code becomes: an operation of the body, with the words that its kind uses.
 #[derive(Clone, Copy, PartialEq, Eq)]
-pub enum OpKind {
-    PushNonVolatile = 1,
-    Alloc = 2,
-    SaveRsp = 3,
-    SaveFp = 4,
-    SetFpRegister = 5,
-    PushMachineFrame = 6,
-    Other = 7,
-    Undecodable = 8,
-}
-
-// What an unwind code becomes. What a kind does not use is 0.
-#[derive(Clone, Copy, PartialEq, Eq)]
-pub struct Operation {
-    pub kind: OpKind,
-    pub register: u32,
-    pub value: u32,
+pub enum Operation {
+    // register
+    PushNonVolatile(u32),
+    // value
+    Alloc(u32),
+    // register, value
+    SaveRsp(u32, u32),
+    SaveFp(u32, u32),
+    SetFpRegister,
+    // with an error code
+    PushMachineFrame(bool),
+    Other,
+    Undecodable,
 }
 
 impl Operation {
     ghost use Rattle.unwind_info.specs.UnwindInfo.{words_of};
 
-    // Kind, register, value.
+    // Kind, register, value; 0 for what the kind does not use.
     pub(crate) fn words(self) -> [u32; 3]
         ensures { result ≡ words_of self }
     {
-        [self.kind as u32, self.register, self.value]
+        match self {
+            Operation::PushNonVolatile(register) => [PUSH_NONVOLATILE, register, 0],
+            Operation::Alloc(value) => [ALLOC, 0, value],
+            Operation::SaveRsp(register, value) => [SAVE_RSP, register, value],
+            Operation::SaveFp(register, value) => [SAVE_FP, register, value],
+            Operation::SetFpRegister => [SET_FP_REGISTER, 0, 0],
+            Operation::PushMachineFrame(code) => [PUSH_MACHINE_FRAME, 0, u32::from(code)],
+            Operation::Other => [OTHER, 0, 0],
+            Operation::Undecodable => [UNDECODABLE, 0, 0],
+        }
     }
 }
 

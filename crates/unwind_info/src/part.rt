@@ -1,71 +1,116 @@
 // A part: its header, and its slots.
-ghost use Rattle.std.specs.Prelude.{◌≡◌, ◌<◌, ◌≤◌, length, IfOk, IfErr};
+ghost use Rattle.std.specs.Prelude.{◌≡◌, ◌+◌, ◌<◌, ◌≤◌, length, drop, IfOk, IfErr};
+ghost use Rattle.text.specs.Text.{Put};
 ghost use Rattle.refusal.specs.Refusal.{number};
-ghost use Rattle.unwind_info.specs.UnwindInfo.{slot_count, frame_register, frame_offset, part_size, part_number, codes_of};
+ghost use Rattle.unwind_info.specs.UnwindInfo.{slot_count, frame_register, frame_offset, part_size, part_number, codes_of, info_words};
 ghost use Rattle.unwind_info.specs.Index.{operations};
 
 use crate::code::{Operations, SLOT};
+use fill::put_words;
 use refusal::Refusal;
 
 const HEADER: usize = 4;
 
 const VERSION: u8 = 1;
 
-pub(crate) fn slot_count(part: &[u8]) -> usize
-    requires { 4 ≤ length part.now }
-    ensures { (result ≡ slot_count part.now) × (result < 256) }
-{
-    usize::from(part[2])
+// The words before an info's operations, and of an operation.
+pub(crate) const HEAD: usize = 3;
+
+pub(crate) const OP_WORDS: usize = 3;
+
+// A part that is all there, the header and the slots that it counts, and what stands behind it.
+#[derive(Clone, Copy)]
+pub(crate) struct Part<'a> {
+    pub bytes: &'a [u8],
+    ghost whole: { part_size bytes.now ≤ length bytes.now },
 }
 
-pub(crate) fn frame_register(part: &[u8]) -> u32
-    requires { 4 ≤ length part.now }
-    ensures { result ≡ frame_register part.now }
-{
-    u32::from(part[3] % 16)
-}
-
-pub(crate) fn frame_offset(part: &[u8]) -> u32
-    requires { 4 ≤ length part.now }
-    ensures { result ≡ frame_offset part.now }
-{
-    u32::from(part[3] / 16 * 16)
-}
-
-// The header and the slots that it counts, whatever they hold.
-pub(crate) fn part_size(part: &[u8]) -> usize
-    requires { 4 ≤ length part.now }
-    ensures { (result ≡ part_size part.now) × (result ≤ 514) }
-{
-    HEADER + SLOT * slot_count(part)
-}
-
-// The slots of the part that these bytes start with, counted: 10 where it is of another version, 11 where they end inside it.
-#[tactic(auto, unfolding(crate::specs::UnwindInfo::part_number))]
-pub(crate) fn checked_slots(part: &[u8]) -> Result<usize, Refusal>
-    requires { 0 < length part.now }
-    ensures ok { IfOk result (λ n. (part_number part.now ≡ 0) × (part_size part.now ≤ length part.now) × (n ≡ slot_count part.now) × (n < 256)) }
-    ensures err { IfErr result (λ r. number r ≡ part_number part.now) }
-{
-    if part[0] % 8 != VERSION {
-        return Err(Refusal::Version);
+impl<'a> Part<'a> {
+    // The part that these bytes start with: 10 where it is of another version, 11 where they end inside it.
+    #[tactic(auto, unfolding(crate::specs::UnwindInfo::part_number))]
+    pub(crate) fn read(bytes: &'a [u8]) -> Result<Part<'a>, Refusal>
+        ensures ok { IfOk result (λ p. (p.bytes.now ≡ bytes.now) × (part_number bytes.now ≡ 0)) }
+        ensures err { IfErr result (λ r. number r ≡ part_number bytes.now) }
+    {
+        if bytes.first().copied().unwrap_or(0) % 8 != VERSION {
+            return Err(Refusal::Version);
+        }
+        let [_, _, slots, _, ..] = *bytes else {
+            return Err(Refusal::Truncated);
+        };
+        if bytes.len() < HEADER + SLOT * usize::from(slots) {
+            return Err(Refusal::Truncated);
+        }
+        Ok(Part { bytes })
     }
-    if part.len() < HEADER {
-        return Err(Refusal::Truncated);
-    }
-    if part.len() < part_size(part) {
-        return Err(Refusal::Truncated);
-    }
-    Ok(slot_count(part))
-}
 
-// Every save of the part lies relative to its frame register, wherever that is set; to RSP where there is none.
-pub(crate) fn operations(part: &[u8]) -> Operations<'_>
-    requires { part_size part.now ≤ length part.now }
-    ensures { operations result.frame result.slots.now ≡ codes_of part.now }
-{
-    Operations {
-        slots: &part[HEADER..part_size(part)],
-        frame: frame_register(part),
+    pub(crate) fn slot_count(self) -> usize
+        ensures { (result ≡ slot_count self.entry.bytes.now) × (result < 256) }
+    {
+        usize::from(self.bytes[2])
+    }
+
+    fn frame_register(self) -> u32
+        ensures { result ≡ frame_register self.entry.bytes.now }
+    {
+        u32::from(self.bytes[3] % 16)
+    }
+
+    fn frame_offset(self) -> u32
+        ensures { result ≡ frame_offset self.entry.bytes.now }
+    {
+        u32::from(self.bytes[3] / 16 * 16)
+    }
+
+    // The header and the slots that it counts, whatever they hold.
+    fn size(self) -> usize
+        ensures { (result ≡ part_size self.entry.bytes.now) × (result ≤ 514) }
+    {
+        HEADER + SLOT * self.slot_count()
+    }
+
+    // What stands behind it.
+    pub(crate) fn behind(self) -> &'a [u8]
+        ensures { result.now ≡ drop (part_size self.entry.bytes.now) self.entry.bytes.now }
+    {
+        &self.bytes[self.size()..]
+    }
+
+    // Every save of the part lies relative to its frame register, wherever that is set; to RSP where there is none.
+    fn operations(self) -> Operations<'a>
+        ensures { let codes = codes_of self.entry.bytes.now in (operations result.frame result.slots.now ≡ codes) × (length codes < 256) }
+    {
+        Operations {
+            slots: &self.bytes[HEADER..self.size()],
+            frame: self.frame_register(),
+        }
+    }
+
+    // How many operations it has.
+    fn count_ops(self) -> usize
+        ensures { (result ≡ length (codes_of self.entry.bytes.now)) × (result < 256) }
+    {
+        self.operations().count()
+    }
+
+    // How many words its info has.
+    pub(crate) fn count_words(self) -> usize
+        ensures { (result ≡ length (info_words self.entry.bytes.now)) × (result ≤ 768) }
+    {
+        HEAD + OP_WORDS * self.count_ops()
+    }
+
+    // Its info: frame register, frame offset, operation count, operations. The count is stored once they are known.
+    pub(crate) fn put(self, out: &mut [u32], at: usize) -> usize
+        requires { at + length (info_words self.bytes.now) ≤ length out.old }
+        ensures { Put out.old at (info_words self.entry.bytes.now) out.new result }
+    {
+        let first = put_words(out, at, &[self.frame_register(), self.frame_offset(), 0]);
+        let mut p = first;
+        for op in self.operations() {
+            p = put_words(out, p, &op.words());
+        }
+        out[first - 1] = ((p - first) / OP_WORDS) as u32;
+        p
     }
 }

@@ -2,7 +2,7 @@
 use Rattle.std.proofs.Common.{arith, rules, sym, ap, ◌≡◌, ◌∙◌, ◌<◌, ◌-◌, ◌*◌, ◌∷◌, [], List, length, take, drop}
 use Rattle.std.proofs.lemmas.List.{nil_from_length, take_rest}
 use Rattle.unwind_info.specs.declared.Operation.{Operation}
-use Rattle.unwind_info.specs.UnwindInfo.{undecodable}
+use Rattle.unwind_info.specs.declared.Operation.TheVariants.{Undecodable}
 use Rattle.unwind_info.specs.Index.{operations, operations_none, operations_last, operations_first}
 use Rattle.unwind_info.proofs.code.OperationsIterator.next.Goals as goal
 
@@ -30,7 +30,7 @@ returns-in-Some-clause-goes c =
 pub returns-in-None-clause-steps : goal.returns-in-None-clause-steps
 returns-in-None-clause-steps c =
     let s = c.args.self.now in
-    operations_last s.frame s.slots.now (search rules) (sym c.code_at.ensures ∙ c.in-None.is) ∙ ap (λ (l : List Operation). undecodable ∷ l) (sym (operations_none s.frame))
+    operations_last s.frame s.slots.now (search rules) (sym c.code_at.ensures ∙ c.in-None.is) ∙ ap (λ (l : List Operation). Undecodable ∷ l) (sym (operations_none s.frame))
 
 pub returns-in-None-clause-goes : goal.returns-in-None-clause-goes
 returns-in-None-clause-goes c =

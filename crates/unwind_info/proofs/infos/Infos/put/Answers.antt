@@ -2,7 +2,7 @@
 use Rattle.std.proofs.Common.{arith, ap, length, length-append}
 use Rattle.fill.specs.Fill.Laws.{fitting_all, fitting_room, fitting_put, fitting_none}
 use Rattle.unwind_info.specs.UnwindInfo.{parts, info_words, infos_words}
-use Rattle.unwind_info.proofs.Loops.{first_whole, infos_first, infos_none}
+use Rattle.unwind_info.proofs.Loops.{infos_first, infos_none}
 use Rattle.unwind_info.proofs.infos.Infos.put.Goals as goal
 
 pub loop-part-init : goal.loop-part-init
@@ -12,19 +12,21 @@ loop-part-init c = record {
   left = rw (c.into_iter-part-iterator.ensures.into_iter_gives, c.parts-part-items.ensures) (fitting_all c.requires (omega arith));
 }
 
-pub put_part-p-requires : goal.put_part-p-requires
-put_part-p-requires c =
-    let x = c.in-Some.part.now in
-    let e = infos_first _ x _ c.in-Some.ensures.steps in (
-      first_whole _ x _ c.in-Some.ensures.steps c.loop-part.part-iterator.whole,
-      omega (arith, fitting_room c.loop-part.invariant.left, ap length e, length-append (info_words x) (infos_words (parts c.next.new.self.bytes.now))),
+pub put-p-requires : goal.put-p-requires
+put-p-requires c =
+    let x = c.in-Some.part.bytes.now in
+    omega (
+      arith,
+      fitting_room c.loop-part.invariant.left,
+      ap length (infos_first _ x _ c.in-Some.ensures.steps),
+      length-append (info_words x) (infos_words (parts c.next.new.self.bytes.now)),
     )
 
 pub loop-part-preserved : goal.loop-part-preserved
 loop-part-preserved c = record {
   can = tt;
   ends = tt;
-  left = fitting_put c.loop-part.invariant.left (infos_first _ c.in-Some.part.now _ c.in-Some.ensures.steps) c.put_part-p.ensures;
+  left = fitting_put c.loop-part.invariant.left (infos_first _ c.in-Some.part.bytes.now _ c.in-Some.ensures.steps) c.put-p.ensures;
 }
 
 pub returns : goal.returns
