@@ -18,27 +18,27 @@ use Rattle.text.specs.Tests.{is_true, and_l, and_r, both, all, all_append, one_l
 use Rattle.refusal.specs.declared.Refusal.{Refusal}
 use Rattle.refusal.specs.declared.Refusal.TheVariants.{Layout, Chain, Reach, Frame}
 use Rattle.entry.specs.declared.Fate.TheVariants.{Skip}
+use Rattle.x64.specs.declared.Base.{Base}
 use Rattle.x64.specs.declared.Op.{Op}
 use Rattle.x64.specs.declared.Op.TheVariants.{PushNonVolatile, Alloc, SaveRsp, SaveFp, SetFpRegister, PushMachineFrame, Other, Undecodable}
 use Rattle.entry.specs.Entry.{word}
 use Rattle.entry.specs.Entry.Laws.{reached}
-use Rattle.x64.specs.X64.{op_of, stored, infos, in_order, info_count, chain, growth_of, value_of, op_fits, ops_fit, info_fits}
+use Rattle.x64.specs.X64.{base_at, op_of, stored, infos, in_order, info_count, chain, growth_of, value_of, op_fits, ops_fit, info_fits}
 use Rattle.x64.specs.X64.{infos_fit, x64_layout, undecodable_ops, undecodable_infos, printed, in_reach, set_count, x64_reach, x64_skipped, x64_judged, saved_text, framed_text, cfa_text}
 
 -- ---- infos and operations as slices
 
--- the operation that three words hold, in an info with frame register f and frame offset o
-unfoldable pub op_in : ℕ → ℕ → List ℕ → Op
-op_in f o w = op_of f o (word w 0) (word w 1) (word w 2)
+-- the operation that three words hold, in an info with this frame register and offset
+unfoldable pub op_in : Base → List ℕ → Op
+op_in b w = op_of b (word w 0) (word w 1) (word w 2)
 
 -- how many words an info takes that starts with these
 abbrev pub info_length : List ℕ → ℕ
 info_length ws = 3 + 3 * word ws 2
 
 -- the info that the words ws begin with: its frame register, frame offset and operations, three words each
-pub record IsInfo (ws : List ℕ) (f o : ℕ) (ops : List (List ℕ)) : Type 0 where
-  pub register_is : f ≡ word ws 0
-  pub offset_is : o ≡ word ws 1
+pub record IsInfo (ws : List ℕ) (b : Base) (ops : List (List ℕ)) : Type 0 where
+  pub base_is : b ≡ base_at ws 0
   pub ops_are : ops ≡ first_chunks 3 (word ws 2) (drop 3 ws)
 
 -- where the info behind that at word a starts
@@ -55,15 +55,15 @@ abbrev pub info_at : List ℕ → ℕ → ℕ
 info_at ws k = info_from ws 4 k
 
 -- what is left to run: these operations of an info backwards, then the first m infos
-abbrev pub left_to_run : List ℕ → ℕ → ℕ → ℕ → List (List ℕ) → List Op
-left_to_run ws m f o ops = reverse (map (op_in f o) ops) ++ in_order (infos ws m 4)
+abbrev pub left_to_run : List ℕ → ℕ → Base → List (List ℕ) → List Op
+left_to_run ws m b ops = reverse (map (op_in b) ops) ++ in_order (infos ws m 4)
 
 -- an operation's words keep their ranges; and those of an info
 unfoldable pub op_fits_in : List ℕ → Bool
 op_fits_in w = op_fits (word w 0) (word w 1) (word w 2)
 
-unfoldable pub fits_in : ℕ → ℕ → List (List ℕ) → Bool
-fits_in f o ops = (ltb f 16 && (leb o 240 && leb (length ops) 255)) && list_all op_fits_in ops
+unfoldable pub fits_in : Base → List (List ℕ) → Bool
+fits_in b ops = (ltb b.register 16 && (leb b.offset 240 && leb (length ops) 255)) && list_all op_fits_in ops
 
 -- an operation's words are those of an undecodable one
 abbrev pub undecodable_in : List ℕ → Bool
@@ -82,11 +82,11 @@ first_in : (ws : List ℕ) (a : ℕ) → word (take 3 (drop a ws)) 0 ≡ word ws
 first_in ws a = let e : a + 0 ≡ a = omega arith in word_in ws a 0 (omega arith) ∙ rw e
 
 module _ (ws : List ℕ) where
-  pub stored_in : (f o a n : ℕ) → stored ws f o a n ≡ map (op_in f o) (first_chunks 3 n (drop a ws))
+  pub stored_in : (b : Base) (a n : ℕ) → stored ws b a n ≡ map (op_in b) (first_chunks 3 n (drop a ws))
   unfolding stored op_in
-  stored_in f o a zero = refl
-  stored_in f o a (suc n) =
-      rw (first_in ws a, word_in ws a 1 (omega arith), word_in ws a 2 (omega arith), drop-drop 3 a ws, stored_in f o (a + 3) n)
+  stored_in b a zero = refl
+  stored_in b a (suc n) =
+      rw (first_in ws a, word_in ws a 1 (omega arith), word_in ws a 2 (omega arith), drop-drop 3 a ws, stored_in b (a + 3) n)
 
   pub ops_fit_in : (a n : ℕ) → ops_fit ws a n ≡ list_all op_fits_in (first_chunks 3 n (drop a ws))
   unfolding ops_fit op_fits_in
@@ -170,12 +170,12 @@ module _ (ws : List ℕ) (n : ℕ) (h : 0 < n) where
   unfolding infos_fit
   fit_cut l = ap (λ (k : ℕ). infos_fit ws k 0) (one_less n h) ∙ (rw (cut_off ws (n - 1) (info_length ws) l, and-false (info_fits ws 0)))
 
-  module _ {f o : ℕ} {ops : List (List ℕ)} (i : IsInfo ws f o ops) where
-    fits_is : info_fits ws 0 ≡ fits_in f o ops
+  module _ {b : Base} {ops : List (List ℕ)} (i : IsInfo ws b ops) where
+    fits_is : info_fits ws 0 ≡ fits_in b ops
     unfolding fits_in info_fits
-    fits_is = rw (i.register_is, i.offset_is, i.ops_are, length-first_chunks 3 (word ws 2) (drop 3 ws), ops_fit_in ws 3 (word ws 2))
+    fits_is = rw (i.base_is, i.ops_are, length-first_chunks 3 (word ws 2) (drop 3 ws), ops_fit_in ws 3 (word ws 2))
 
-    pub fit_more : info_length ws ≤ length ws → infos_fit ws n 0 ≡ (fits_in f o ops && infos_fit (drop (info_length ws) ws) (n - 1) 0)
+    pub fit_more : info_length ws ≤ length ws → infos_fit ws n 0 ≡ (fits_in b ops && infos_fit (drop (info_length ws) ws) (n - 1) 0)
     unfolding infos_fit
     fit_more l =
         let e : info_length ws + 0 ≡ info_length ws = omega arith in
@@ -266,44 +266,43 @@ module _ (ws : List ℕ) (k : ℕ) where
 -- of m + 1 infos from word a on, the last one runs first
 last_first : (ws : List ℕ) (m a : ℕ)
     → in_order (infos ws (m + 1) a)
-    ≡ reverse (stored ws (word ws (info_from ws a m)) (word ws (info_from ws a m + 1)) (info_from ws a m + 3) (word ws (info_from ws a m + 2))) ++ in_order (infos ws m a)
+    ≡ reverse (stored ws (base_at ws (info_from ws a m)) (info_from ws a m + 3) (word ws (info_from ws a m + 2))) ++ in_order (infos ws m a)
 unfolding in_order infos info_from
 last_first ws m a = rw (add-one m) (go m a)
   where
     own : ℕ → List Op
-    own a = reverse (stored ws (word ws a) (word ws (a + 1)) (a + 3) (word ws (a + 2)))
+    own a = reverse (stored ws (base_at ws a) (a + 3) (word ws (a + 2)))
 
     go : (m a : ℕ) → in_order (infos ws (suc m) a) ≡ own (info_from ws a m) ++ in_order (infos ws m a)
     go zero a = sym (append-nil (own a))
     go (suc m) a = rw (go m (next_info ws a)) (append_assoc (own (info_from ws (next_info ws a) m)) (in_order (infos ws m (next_info ws a))) (own a))
 
-module _ (ws : List ℕ) (m f o : ℕ) where
+module _ (ws : List ℕ) (m : ℕ) (b : Base) where
   -- an info that comes to run
-  pub run_info : {ops : List (List ℕ)} → IsInfo (drop (info_at ws m) ws) f o ops → left_to_run ws m f o ops ≡ in_order (infos ws (m + 1) 4)
+  pub run_info : {ops : List (List ℕ)} → IsInfo (drop (info_at ws m) ws) b ops → left_to_run ws m b ops ≡ in_order (infos ws (m + 1) 4)
   run_info i =
       let a = info_at ws m in
       let e : a + 0 ≡ a = omega arith in
       rw (
         last_first ws m 4,
-        i.register_is,
-        i.offset_is,
+        i.base_is,
         i.ops_are,
         word_on ws a 0,
         word_on ws a 1,
         word_on ws a 2,
         drop-drop 3 a ws,
         e,
-        stored_in ws (word ws a) (word ws (a + 1)) (a + 3) (word ws (a + 2)),
+        stored_in ws (base_at ws a) (a + 3) (word ws (a + 2)),
       )
 
   -- an info that has run
-  pub run_out : (ops : List (List ℕ)) → length ops ≡ 0 → left_to_run ws m f o ops ≡ in_order (infos ws m 4)
+  pub run_out : (ops : List (List ℕ)) → length ops ≡ 0 → left_to_run ws m b ops ≡ in_order (infos ws m 4)
   run_out [] h = refl
   run_out (w ∷ ops) h = absurd (omega arith)
 
   -- the operation that runs next
-  pub run_op : (ops : List (List ℕ)) (w : List ℕ) → left_to_run ws m f o (ops ++ w ∷ []) ≡ op_in f o w ∷ left_to_run ws m f o ops
-  run_op ops w = rw (map-append (op_in f o) ops (w ∷ []), reverse-append (map (op_in f o) ops) (op_in f o w ∷ []))
+  pub run_op : (ops : List (List ℕ)) (w : List ℕ) → left_to_run ws m b (ops ++ w ∷ []) ≡ op_in b w ∷ left_to_run ws m b ops
+  run_op ops w = rw (map-append (op_in b) ops (w ∷ []), reverse-append (map (op_in b) ops) (op_in b w ∷ []))
 
 -- ---- the total
 
@@ -332,8 +331,8 @@ unfoldable pub offset_ok : Op → Bool
 offset_ok (PushNonVolatile r) = true
 offset_ok (Alloc v) = true
 offset_ok (SaveRsp r v) = true
-offset_ok (SaveFp r v f o) = leb o 240
-offset_ok (SetFpRegister f o) = leb o 240
+offset_ok (SaveFp r v b) = leb b.offset 240
+offset_ok (SetFpRegister b) = leb b.offset 240
 offset_ok (PushMachineFrame code) = true
 offset_ok Other = true
 offset_ok Undecodable = true
@@ -343,8 +342,8 @@ unfolding printed value_of growth_of offset_ok inside
 places_inside S (PushNonVolatile r) h w v g = rw (lt-ltb (S + 8) (2 ^ 31) g)
 places_inside S (Alloc n) h w v g = refl
 places_inside S (SaveRsp r n) h w v g = rw (difference_inside S n h v)
-places_inside S (SaveFp r n f o) h w v g = let k : o ≤ 240 = leb→le o 240 w in rw (difference_inside n o v (omega arith))
-places_inside S (SetFpRegister f o) h w v g = let k : o ≤ 240 = leb→le o 240 w in rw (difference_inside S o h (omega arith))
+places_inside S (SaveFp r n b) h w v g = let k : b.offset ≤ 240 = leb→le b.offset 240 w in rw (difference_inside n b.offset v (omega arith))
+places_inside S (SetFpRegister b) h w v g = let k : b.offset ≤ 240 = leb→le b.offset 240 w in rw (difference_inside S b.offset h (omega arith))
 places_inside S (PushMachineFrame true) h w v g = rw (lt-ltb (S + 16) (2 ^ 31) (omega arith), lt-ltb (S + 40) (2 ^ 31) (omega arith))
 places_inside S (PushMachineFrame false) h w v g = rw (lt-ltb (S + 16) (2 ^ 31) (omega arith), lt-ltb (S + 40) (2 ^ 31) (omega arith))
 places_inside S Other h w v g = refl
@@ -362,17 +361,17 @@ reach_is S (o ∷ os) h w = go (ltb (value_of o) (2 ^ 31)) (ltb (S + growth_of o
     go true false p q r = refl
     go false b p q r = refl
 
-of_ok : (f o k r v : ℕ) → T (leb o 240) → T (offset_ok (op_of f o k r v))
+of_ok : (b : Base) (k r v : ℕ) → T (leb b.offset 240) → T (offset_ok (op_of b k r v))
 unfolding op_of offset_ok
-of_ok f o k r v h =
+of_ok b k r v h =
     let by = either offset_ok in
-    by (eqb k 1) (PushNonVolatile r) _ tt (by (eqb k 2) (Alloc v) _ tt (by (eqb k 3) (SaveRsp r v) _ tt (by (eqb k 4) (SaveFp r v f o) _ h
-    (by (eqb k 5) (SetFpRegister f o) _ h (by (eqb k 6) (PushMachineFrame (eqb v 1)) _ tt (by (eqb k 8) Undecodable Other tt tt))))))
+    by (eqb k 1) (PushNonVolatile r) _ tt (by (eqb k 2) (Alloc v) _ tt (by (eqb k 3) (SaveRsp r v) _ tt (by (eqb k 4) (SaveFp r v b) _ h
+    (by (eqb k 5) (SetFpRegister b) _ h (by (eqb k 6) (PushMachineFrame (eqb v 1)) _ tt (by (eqb k 8) Undecodable Other tt tt))))))
 
-ops_ok : (ws : List ℕ) (f o a n : ℕ) → T (leb o 240) → T (all offset_ok (stored ws f o a n))
+ops_ok : (ws : List ℕ) (b : Base) (a n : ℕ) → T (leb b.offset 240) → T (all offset_ok (stored ws b a n))
 unfolding stored
-ops_ok ws f o a zero h = tt
-ops_ok ws f o a (suc n) h = both (offset_ok (op_of f o _ _ _)) _ (of_ok f o _ _ _ h) (ops_ok ws f o (a + 3) n h)
+ops_ok ws b a zero h = tt
+ops_ok ws b a (suc n) h = both (offset_ok (op_of b _ _ _)) _ (of_ok b _ _ _ h) (ops_ok ws b (a + 3) n h)
 
 all_back : (p : Op → Bool) (os : List Op) → T (all p os) → T (all p (reverse os))
 all_back p [] h = tt
@@ -384,7 +383,7 @@ unfolding infos_fit info_fits infos in_order
 infos_ok ws zero a h = tt
 infos_ok ws (suc m) a h =
     all_append offset_ok (in_order (infos ws m (next_info ws a))) _ (infos_ok ws m (next_info ws a) (and_r (info_fits ws a) _ h))
-    (all_back offset_ok _ (ops_ok ws (word ws a) (word ws (a + 1)) (a + 3) (word ws (a + 2)) (search (and_l, and_r))))
+    (all_back offset_ok _ (ops_ok ws (base_at ws a) (a + 3) (word ws (a + 2)) (search (and_l, and_r))))
 
 pub chain_ok : (ws : List ℕ) → T (x64_layout ws) → T (all offset_ok (chain ws))
 unfolding chain

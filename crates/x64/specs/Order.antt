@@ -6,7 +6,7 @@ use Rattle.std.proofs.Math.Bool.{and-true, and-false, and_assoc, and_comm}
 use Rattle.text.specs.Tests.{all}
 use Rattle.entry.specs.Entry.{word}
 use Rattle.x64.specs.declared.Op.{Op}
-use Rattle.x64.specs.X64.{stored, infos, in_order, info_count, chain, growth_of, value_of, total, x64_layout, in_reach, is_set, set_count}
+use Rattle.x64.specs.X64.{base_at, stored, infos, in_order, info_count, chain, growth_of, value_of, total, x64_layout, in_reach, is_set, set_count}
 use Rattle.x64.specs.Index.{tally, growths, reaches, offset_ok, reach_is, chain_ok, chain_reach}
 
 -- ---- the order of document 01
@@ -23,7 +23,7 @@ chain01 ws = part_first (infos ws (info_count ws) 4)
 -- a body of one info runs as it did
 pub one_info : (ws : List ℕ) → info_count ws ≡ 1 → chain ws ≡ chain01 ws
 unfolding chain chain01 infos in_order part_first
-one_info ws h = rw h (sym (append-nil (reverse (stored ws (word ws 4) (word ws 5) 7 (word ws 6)))))
+one_info ws h = rw h (sym (append-nil (reverse (stored ws (base_at ws 4) 7 (word ws 6)))))
 
 -- ---- sums and tests over all operations are the same in both orders
 

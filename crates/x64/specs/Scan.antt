@@ -2,6 +2,7 @@
 use Rattle.std.specs.Prelude.{ℕ, ◌+◌, true, false, cond, ◌||◌, List, [], ◌∷◌, pos, Option, None, Some}
 use Rattle.std.specs.Option.{is_some, unwrap_or}
 use Rattle.std.proofs.Math.IntN.{sub_ℕ}
+use Rattle.x64.specs.declared.Base.{Base}
 use Rattle.x64.specs.declared.Op.{Op}
 use Rattle.x64.specs.declared.Op.TheVariants.{PushNonVolatile, Alloc, SaveRsp, SaveFp, SetFpRegister, PushMachineFrame, Other, Undecodable}
 use Rattle.x64.specs.declared.Frame.{Frame}
@@ -20,11 +21,11 @@ scan_start = record { total = 8; frame = None; twice = false; machine = false }
 unfoldable pub grown : Scan → ℕ → Scan
 grown s S = record { total = S; frame = s.frame; twice = s.twice; machine = s.machine }
 
--- frame register f is set, with frame offset o: the first one and its place are kept, a second is noted (refusal 7); the total is S
-unfoldable pub framed : Scan → ℕ → ℕ → ℕ → Scan
-framed s f o S = record {
+-- a frame register is set: the first one and its place are kept, a second is noted (refusal 7); the total is S
+unfoldable pub framed : Scan → Base → ℕ → Scan
+framed s b S = record {
   total = S;
-  frame = Some (unwrap_or s.frame (record { register = f; offset = o; place = s.total }));
+  frame = Some (unwrap_or s.frame (record { base = b; place = s.total }));
   twice = is_some s.frame || s.twice;
   machine = s.machine;
 }
@@ -38,8 +39,8 @@ unfoldable pub advance : Scan → Op → ℕ → Scan
 advance s (PushNonVolatile r) S = grown s S
 advance s (Alloc v) S = grown s S
 advance s (SaveRsp r v) S = grown s S
-advance s (SaveFp r v f o) S = grown s S
-advance s (SetFpRegister f o) S = framed s f o S
+advance s (SaveFp r v b) S = grown s S
+advance s (SetFpRegister b) S = framed s b S
 advance s (PushMachineFrame e) S = machined s S
 advance s Other S = grown s S
 advance s Undecodable S = grown s S
@@ -56,7 +57,7 @@ scanned s (o ∷ os) = cond (within s.total o) (scanned (advance s o (s.total + 
 -- 01, x64 body: the CFA, from the frame register that was set, else from $rsp
 abbrev pub cfa_by : Option Frame → ℕ → List ℕ
 cfa_by None S = cfa_text (ascii "$rsp") (pos S)
-cfa_by (Some f) S = cfa_text (pe_name f.register) (sub_ℕ f.place f.offset)
+cfa_by (Some f) S = cfa_text (pe_name f.base.register) (sub_ℕ f.place f.base.offset)
 
 unfoldable pub cfa_of : Scan → List ℕ
 cfa_of s = cfa_by s.frame s.total

@@ -18,8 +18,8 @@ unfoldable pub op_rules : ℕ → Op → List Rule
 op_rules S (PushNonVolatile r) = rule (pe_name r) (at_cfa_minus (pos (S + 8))) ∷ []
 op_rules S (Alloc v) = []
 op_rules S (SaveRsp r v) = rule (pe_name r) (at_cfa_minus (sub_ℕ S v)) ∷ []
-op_rules S (SaveFp r v f o) = rule (pe_name r) (at_register_plus (pe_name f) (sub_ℕ v o)) ∷ []
-op_rules S (SetFpRegister f o) = []
+op_rules S (SaveFp r v b) = rule (pe_name r) (at_register_plus (pe_name b.register) (sub_ℕ v b.offset)) ∷ []
+op_rules S (SetFpRegister b) = []
 op_rules S (PushMachineFrame code) = rule (ascii "$rsp") (at_cfa_minus (pos (S + 16))) ∷ rule (ascii ".ra") (at_cfa_minus (pos (S + 40))) ∷ []
 op_rules S Other = []
 op_rules S Undecodable = []
@@ -29,8 +29,8 @@ unfoldable pub op_cfa : ℕ → Op → List Form
 op_cfa S (PushNonVolatile r) = []
 op_cfa S (Alloc v) = []
 op_cfa S (SaveRsp r v) = []
-op_cfa S (SaveFp r v f o) = []
-op_cfa S (SetFpRegister f o) = register_plus (pe_name f) (sub_ℕ S o) ∷ []
+op_cfa S (SaveFp r v b) = []
+op_cfa S (SetFpRegister b) = register_plus (pe_name b.register) (sub_ℕ S b.offset) ∷ []
 op_cfa S (PushMachineFrame code) = []
 op_cfa S Other = []
 op_cfa S Undecodable = []
@@ -47,8 +47,8 @@ unfoldable pub added_by : Op → ℕ
 added_by (PushNonVolatile r) = 8
 added_by (Alloc v) = v
 added_by (SaveRsp r v) = 0
-added_by (SaveFp r v f o) = 0
-added_by (SetFpRegister f o) = 0
+added_by (SaveFp r v b) = 0
+added_by (SetFpRegister b) = 0
 added_by (PushMachineFrame code) = 40 + cond code 8 0
 added_by Other = 0
 added_by Undecodable = 0
@@ -77,8 +77,8 @@ pushes (o ∷ os) = elim o [
   | PushNonVolatile r ↦ 1
   | Alloc v ↦ 0
   | SaveRsp r v ↦ 0
-  | SaveFp r v f o ↦ 0
-  | SetFpRegister f o ↦ 0
+  | SaveFp r v b ↦ 0
+  | SetFpRegister b ↦ 0
   | PushMachineFrame e ↦ 0
   | Other ↦ 0
   | Undecodable ↦ 0
@@ -91,8 +91,8 @@ allocations (o ∷ os) = elim o [
   | PushNonVolatile r ↦ 0
   | Alloc v ↦ v
   | SaveRsp r v ↦ 0
-  | SaveFp r v f o ↦ 0
-  | SetFpRegister f o ↦ 0
+  | SaveFp r v b ↦ 0
+  | SetFpRegister b ↦ 0
   | PushMachineFrame e ↦ 0
   | Other ↦ 0
   | Undecodable ↦ 0
@@ -105,8 +105,8 @@ machine_frames (o ∷ os) = elim o [
   | PushNonVolatile r ↦ 0
   | Alloc v ↦ 0
   | SaveRsp r v ↦ 0
-  | SaveFp r v f o ↦ 0
-  | SetFpRegister f o ↦ 0
+  | SaveFp r v b ↦ 0
+  | SetFpRegister b ↦ 0
   | PushMachineFrame e ↦ 1
   | Other ↦ 0
   | Undecodable ↦ 0
@@ -119,8 +119,8 @@ error_codes (o ∷ os) = elim o [
   | PushNonVolatile r ↦ 0
   | Alloc v ↦ 0
   | SaveRsp r v ↦ 0
-  | SaveFp r v f o ↦ 0
-  | SetFpRegister f o ↦ 0
+  | SaveFp r v b ↦ 0
+  | SetFpRegister b ↦ 0
   | PushMachineFrame e ↦ cond e 1 0
   | Other ↦ 0
   | Undecodable ↦ 0

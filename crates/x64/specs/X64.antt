@@ -13,27 +13,32 @@ use Rattle.entry.specs.declared.Fate.TheVariants.{Skip}
 use Rattle.entry.specs.declared.Last.{Last}
 use Rattle.entry.specs.Entry.{Judged, Entry, comes_to, word}
 use Rattle.entry.specs.Entry.Laws.{reached}
+use Rattle.x64.specs.declared.Base.{Base}
 use Rattle.x64.specs.declared.Op.{Op}
 use Rattle.x64.specs.declared.Op.TheVariants.{PushNonVolatile, Alloc, SaveRsp, SaveFp, SetFpRegister, PushMachineFrame, Other, Undecodable}
 use Rattle.lines.specs.Reach.{inside}
 
 -- ---- operations from words
 
--- kind, register and value, in an info with frame register f and frame offset o
-unfoldable pub op_of : ℕ → ℕ → ℕ → ℕ → ℕ → Op
-op_of f o k r v =
-    cond (eqb k 1) (PushNonVolatile r) (cond (eqb k 2) (Alloc v) (cond (eqb k 3) (SaveRsp r v) (cond (eqb k 4) (SaveFp r v f o)
-    (cond (eqb k 5) (SetFpRegister f o) (cond (eqb k 6) (PushMachineFrame (eqb v 1)) (cond (eqb k 8) Undecodable Other))))))
+-- the frame register and the frame offset of the info at word a
+abbrev pub base_at : List ℕ → ℕ → Base
+base_at ws a = record { register = word ws a; offset = word ws (a + 1) }
+
+-- kind, register and value, in an info with these
+unfoldable pub op_of : Base → ℕ → ℕ → ℕ → Op
+op_of b k r v =
+    cond (eqb k 1) (PushNonVolatile r) (cond (eqb k 2) (Alloc v) (cond (eqb k 3) (SaveRsp r v) (cond (eqb k 4) (SaveFp r v b)
+    (cond (eqb k 5) (SetFpRegister b) (cond (eqb k 6) (PushMachineFrame (eqb v 1)) (cond (eqb k 8) Undecodable Other))))))
 
 -- n operations in stored order, from word a on
-unfoldable pub stored : List ℕ → ℕ → ℕ → ℕ → ℕ → List Op
-stored ws f o a zero = []
-stored ws f o a (suc n) = op_of f o (word ws a) (word ws (a + 1)) (word ws (a + 2)) ∷ stored ws f o (a + 3) n
+unfoldable pub stored : List ℕ → Base → ℕ → ℕ → List Op
+stored ws b a zero = []
+stored ws b a (suc n) = op_of b (word ws a) (word ws (a + 1)) (word ws (a + 2)) ∷ stored ws b (a + 3) n
 
 -- the operations of m infos, each as stored: frame register, frame offset, operation count, operations
 unfoldable pub infos : List ℕ → ℕ → ℕ → List (List Op)
 infos ws zero a = []
-infos ws (suc m) a = stored ws (word ws a) (word ws (a + 1)) (a + 3) (word ws (a + 2)) ∷ infos ws m (a + 3 + 3 * word ws (a + 2))
+infos ws (suc m) a = stored ws (base_at ws a) (a + 3) (word ws (a + 2)) ∷ infos ws m (a + 3 + 3 * word ws (a + 2))
 
 -- 02, request 2: the order in which a chain runs: infos last to first, a part after its parents, each backwards
 unfoldable pub in_order : List (List Op) → List Op
@@ -55,8 +60,8 @@ unfoldable pub growth_of : Op → ℕ
 growth_of (PushNonVolatile r) = 8
 growth_of (Alloc v) = v
 growth_of (SaveRsp r v) = 0
-growth_of (SaveFp r v f o) = 0
-growth_of (SetFpRegister f o) = 0
+growth_of (SaveFp r v b) = 0
+growth_of (SetFpRegister b) = 0
 growth_of (PushMachineFrame code) = cond code 48 40
 growth_of Other = 0
 growth_of Undecodable = 0
@@ -66,8 +71,8 @@ unfoldable pub value_of : Op → ℕ
 value_of (PushNonVolatile r) = 0
 value_of (Alloc v) = v
 value_of (SaveRsp r v) = v
-value_of (SaveFp r v f o) = v
-value_of (SetFpRegister f o) = 0
+value_of (SaveFp r v b) = v
+value_of (SetFpRegister b) = 0
 value_of (PushMachineFrame code) = 0
 value_of Other = 0
 value_of Undecodable = 0
@@ -93,8 +98,8 @@ unfoldable pub op_text : ℕ → Op → List ℕ
 op_text S (PushNonVolatile r) = saved_text (pe_name r) (pos (S + 8))
 op_text S (Alloc v) = []
 op_text S (SaveRsp r v) = saved_text (pe_name r) (sub_ℕ S v)
-op_text S (SaveFp r v f o) = framed_text (pe_name r) (pe_name f) (sub_ℕ v o)
-op_text S (SetFpRegister f o) = []
+op_text S (SaveFp r v b) = framed_text (pe_name r) (pe_name b.register) (sub_ℕ v b.offset)
+op_text S (SetFpRegister b) = []
 op_text S (PushMachineFrame code) = machine_text S
 op_text S Other = []
 op_text S Undecodable = []
@@ -108,8 +113,8 @@ unfoldable pub set_text : ℕ → Op → List (List ℕ)
 set_text S (PushNonVolatile r) = []
 set_text S (Alloc v) = []
 set_text S (SaveRsp r v) = []
-set_text S (SaveFp r v f o) = []
-set_text S (SetFpRegister f o) = cfa_text (pe_name f) (sub_ℕ S o) ∷ []
+set_text S (SaveFp r v b) = []
+set_text S (SetFpRegister b) = cfa_text (pe_name b.register) (sub_ℕ S b.offset) ∷ []
 set_text S (PushMachineFrame code) = []
 set_text S Other = []
 set_text S Undecodable = []
@@ -119,8 +124,8 @@ unfoldable pub is_machine : Op → Bool
 is_machine (PushNonVolatile r) = false
 is_machine (Alloc v) = false
 is_machine (SaveRsp r v) = false
-is_machine (SaveFp r v f o) = false
-is_machine (SetFpRegister f o) = false
+is_machine (SaveFp r v b) = false
+is_machine (SetFpRegister b) = false
 is_machine (PushMachineFrame code) = true
 is_machine Other = false
 is_machine Undecodable = false
@@ -212,8 +217,8 @@ unfoldable pub printed : ℕ → Op → List ℤ
 printed S (PushNonVolatile r) = pos (S + 8) ∷ []
 printed S (Alloc v) = []
 printed S (SaveRsp r v) = sub_ℕ S v ∷ []
-printed S (SaveFp r v f o) = sub_ℕ v o ∷ []
-printed S (SetFpRegister f o) = sub_ℕ S o ∷ []
+printed S (SaveFp r v b) = sub_ℕ v b.offset ∷ []
+printed S (SetFpRegister b) = sub_ℕ S b.offset ∷ []
 printed S (PushMachineFrame code) = pos (S + 16) ∷ pos (S + 40) ∷ []
 printed S Other = []
 printed S Undecodable = []
@@ -228,8 +233,8 @@ unfoldable pub is_set : Op → Bool
 is_set (PushNonVolatile r) = false
 is_set (Alloc v) = false
 is_set (SaveRsp r v) = false
-is_set (SaveFp r v f o) = false
-is_set (SetFpRegister f o) = true
+is_set (SaveFp r v b) = false
+is_set (SetFpRegister b) = true
 is_set (PushMachineFrame code) = false
 is_set Other = false
 is_set Undecodable = false

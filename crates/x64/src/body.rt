@@ -21,10 +21,10 @@ ghost use Rattle.std.specs.Prelude.{◌≡◌, ◌<◌, ◌≤◌, length, drop,
 ghost use Rattle.x64.specs.X64.{chain, growth_of, value_of, x64_layout};
 ghost use Rattle.x64.specs.Index.{op_in, info_length, info_at, IsInfo, left_to_run};
 
-use crate::Op;
 use crate::kinds::{
     ALLOC, PUSH_MACHINE_FRAME, PUSH_NONVOLATILE, SAVE_FP, SAVE_RSP, SET_FP_REGISTER, UNDECODABLE,
 };
+use crate::{Base, Op};
 use entry::word;
 
 // Where the words of a body stand.
@@ -85,7 +85,7 @@ impl Op {
         ensures { result ≡ value_of self }
     {
         match self {
-            Op::Alloc(v) | Op::SaveRsp(_, v) | Op::SaveFp(_, v, _, _) => v,
+            Op::Alloc(v) | Op::SaveRsp(_, v) | Op::SaveFp(_, v, _) => v,
             Op::PushNonVolatile(_)
             | Op::SetFpRegister(..)
             | Op::PushMachineFrame(_)
@@ -97,11 +97,10 @@ impl Op {
 
 // ---- an info
 
-// The frame register with its offset, and the words of the operations as they are stored.
+// The frame register, and the words of the operations as they are stored.
 #[derive(Clone, Copy)]
 pub(crate) struct Info<'a> {
-    pub(crate) register: u32,
-    pub(crate) offset: u32,
+    pub(crate) base: Base,
     pub(crate) ops: &'a [OpWords],
 }
 
@@ -109,33 +108,32 @@ impl<'a> Info<'a> {
     // The info that the words begin with, and the words behind it; none where they are too few.
     pub(crate) fn split(words: &'a [u32]) -> Option<(Info<'a>, &'a [u32])>
         ensures { MatchOption result (length words.now < info_length words.now)
-            (λ p. (info_length words.now ≤ length words.now) × IsInfo words.now p.0.register p.0.offset p.0.ops.now × (p.1.now ≡ drop (info_length words.now) words.now)) }
+            (λ p. (info_length words.now ≤ length words.now) × IsInfo words.now p.0.base p.0.ops.now × (p.1.now ≡ drop (info_length words.now) words.now)) }
     {
         let end = FIRST_OP + OP_WORDS * word(words, OPS_AT) as usize;
         if words.len() < end {
             return None;
         }
         let (ops, _) = words[FIRST_OP..end].as_chunks::<OP_WORDS>();
-        let info = Info {
+        let base = Base {
             register: words[0],
             offset: words[FRAME_OFFSET_AT],
-            ops,
         };
-        Some((info, &words[end..]))
+        Some((Info { base, ops }, &words[end..]))
     }
 
     // The operation that these words of it hold.
     #[tactic(auto, unfolding(crate::specs::Index::op_in, crate::specs::X64::op_of))]
     fn op(self, words: &OpWords) -> Op
-        ensures { result ≡ op_in self.entry.register self.entry.offset words.now }
+        ensures { result ≡ op_in self.entry.base words.now }
     {
         let [kind, register, value] = *words;
         match kind {
             PUSH_NONVOLATILE => Op::PushNonVolatile(register),
             ALLOC => Op::Alloc(value),
             SAVE_RSP => Op::SaveRsp(register, value),
-            SAVE_FP => Op::SaveFp(register, value, self.register, self.offset),
-            SET_FP_REGISTER => Op::SetFpRegister(self.register, self.offset),
+            SAVE_FP => Op::SaveFp(register, value, self.base),
+            SET_FP_REGISTER => Op::SetFpRegister(self.base),
             PUSH_MACHINE_FRAME => Op::PushMachineFrame(value == 1),
             UNDECODABLE => Op::Undecodable,
             _ => Op::Other,
@@ -186,7 +184,7 @@ impl<'a> Body<'a> {
     // Info k, counted from 0.
     pub(crate) fn info(self, k: u32) -> Info<'a>
         requires { k < get_or self.words.now 3 0 }
-        ensures { let ws = drop (info_at self.entry.words.now k) self.entry.words.now in IsInfo ws result.register result.offset result.ops.now }
+        ensures { let ws = drop (info_at self.entry.words.now k) self.entry.words.now in IsInfo ws result.base result.ops.now }
     {
         Info::split(self.from_info(k)).unwrap().0
     }
@@ -194,14 +192,16 @@ impl<'a> Body<'a> {
     // The operations in the order in which they run.
     #[tactic(auto, unfolding(crate::specs::X64::chain))]
     pub(crate) fn chain(self) -> Chain<'a>
-        ensures { left_to_run result.body.words.now result.left result.info.register result.info.offset result.info.ops.now ≡ chain self.entry.words.now }
+        ensures { left_to_run result.body.words.now result.left result.info.base result.info.ops.now ≡ chain self.entry.words.now }
     {
         Chain {
             body: self,
             left: self.info_count(),
             info: Info {
-                register: 0,
-                offset: 0,
+                base: Base {
+                    register: 0,
+                    offset: 0,
+                },
                 ops: &[],
             },
         }
@@ -225,9 +225,9 @@ impl<'a> Iterator for Chain<'a> {
 
     type Item = Op;
 
-    ghost next_gives = { YieldsFirst (λ s. left_to_run s.body.words.now s.left s.info.register s.info.offset s.info.ops.now) };
+    ghost next_gives = { YieldsFirst (λ s. left_to_run s.body.words.now s.left s.info.base s.info.ops.now) };
 
-    ghost remaining = { item_count (λ s. left_to_run s.body.words.now s.left s.info.register s.info.offset s.info.ops.now) };
+    ghost remaining = { item_count (λ s. left_to_run s.body.words.now s.left s.info.base s.info.ops.now) };
 
     fn next(&mut self) -> Option<Op> {
         // infos may have no operations

@@ -50,10 +50,10 @@ fn ops_fit(ops: &[OpWords]) -> bool
 impl<'a> Info<'a> {
     #[tactic(auto, unfolding(crate::specs::Index::fits_in))]
     fn fits(self) -> bool
-        ensures { result ≡ fits_in self.entry.register self.entry.offset self.entry.ops.now }
+        ensures { result ≡ fits_in self.entry.base self.entry.ops.now }
     {
-        self.register < REGISTERS
-            && self.offset <= MOST_FRAME_OFFSET
+        self.base.register < REGISTERS
+            && self.base.offset <= MOST_FRAME_OFFSET
             && self.ops.len() <= MOST_OPS
             && ops_fit(self.ops)
     }
@@ -146,12 +146,11 @@ impl Scan {
     {
         match op {
             // the first one counts
-            Op::SetFpRegister(register, offset) => match self.frame {
+            Op::SetFpRegister(base) => match self.frame {
                 Some(_) => self.twice = true,
                 None => {
                     self.frame = Some(Frame {
-                        register,
-                        offset,
+                        base,
                         place: self.total,
                     });
                 }

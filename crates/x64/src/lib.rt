@@ -27,6 +27,13 @@ use judge::scan_chain;
 use refusal::Refusal;
 use write::put_entry;
 
+// An info's frame register, with its frame offset.
+#[derive(Clone, Copy)]
+pub struct Base {
+    pub register: u32,
+    pub offset: u32,
+}
+
 // An unwind operation with the words that it uses; those that need the frame register carry it with its offset.
 #[derive(Clone, Copy)]
 pub enum Op {
@@ -36,21 +43,20 @@ pub enum Op {
     Alloc(u32),
     // the register lies that many bytes above the stack pointer
     SaveRsp(u32, u32),
-    // the register lies value - frame offset bytes above the frame register: register, value, frame register, frame offset
-    SaveFp(u32, u32, u32, u32),
+    // the register lies value - frame offset bytes above the frame register: register, value
+    SaveFp(u32, u32, Base),
     // the frame register now is the stack pointer plus the frame offset
-    SetFpRegister(u32, u32),
+    SetFpRegister(Base),
     // an interrupt pushed SS, RSP, EFLAGS, CS and RIP, 40 bytes, and with `true` an error code of 8 more
     PushMachineFrame(bool),
     Other,
     Undecodable,
 }
 
-// A frame register that is set: its offset, and the total where it is set.
+// A frame register that is set, and the total where it is set.
 #[derive(Clone, Copy)]
 pub struct Frame {
-    pub register: u32,
-    pub offset: u32,
+    pub base: Base,
     pub place: u32,
 }
 

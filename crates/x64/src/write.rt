@@ -76,8 +76,14 @@ fn put_op(out: &mut [u8], at: usize, total: u32, op: Op) -> usize
             let name = pe_register_name(register);
             put_saved(out, at, name, total as i64 - v as i64)
         }
-        Op::SaveFp(register, v, frame, offset) => {
-            put_framed(out, at, register, frame, v as i64 - offset as i64)
+        Op::SaveFp(register, v, base) => {
+            put_framed(
+                out,
+                at,
+                register,
+                base.register,
+                v as i64 - base.offset as i64,
+            )
         }
         Op::PushMachineFrame(_) => put_machine(out, at, total),
         Op::Alloc(_) | Op::SetFpRegister(..) | Op::Other | Op::Undecodable => at,
@@ -109,8 +115,8 @@ fn put_scan(out: &mut [u8], at: usize, scan: Scan) -> usize
         Some(frame) => put_cfa(
             out,
             at,
-            frame.register,
-            frame.place as i64 - frame.offset as i64,
+            frame.base.register,
+            frame.place as i64 - frame.base.offset as i64,
         ),
         None => put_cfa(out, at, RSP, scan.total as i64),
     }

@@ -40,8 +40,8 @@ unfolding advance grown framed machined
 advance_total s (PushNonVolatile r) S = refl
 advance_total s (Alloc v) S = refl
 advance_total s (SaveRsp r v) S = refl
-advance_total s (SaveFp r v f o) S = refl
-advance_total s (SetFpRegister f o) S = refl
+advance_total s (SaveFp r v b) S = refl
+advance_total s (SetFpRegister b) S = refl
 advance_total s (PushMachineFrame e) S = refl
 advance_total s Other S = refl
 advance_total s Undecodable S = refl
@@ -65,8 +65,8 @@ unfolding advance grown framed machined is_machine
 advance_machine s (PushNonVolatile r) S b = refl
 advance_machine s (Alloc v) S b = refl
 advance_machine s (SaveRsp r v) S b = refl
-advance_machine s (SaveFp r v f o) S b = refl
-advance_machine s (SetFpRegister f o) S b = refl
+advance_machine s (SaveFp r v x) S b = refl
+advance_machine s (SetFpRegister x) S b = refl
 advance_machine s (PushMachineFrame e) S b = sym (or-true s.machine)
 advance_machine s Other S b = refl
 advance_machine s Undecodable S b = refl
@@ -90,10 +90,10 @@ unfolding cfa_from cfa_left advance grown framed machined run total set_text cfa
 advance_cfa s (PushNonVolatile r) os = cfa_on s.frame _ s.total os _ refl
 advance_cfa s (Alloc v) os = cfa_on s.frame _ s.total os _ refl
 advance_cfa s (SaveRsp r v) os = cfa_on s.frame _ s.total os _ refl
-advance_cfa s (SaveFp r v f o) os = cfa_on s.frame _ s.total os _ refl
-advance_cfa s (SetFpRegister f o) os = go s.frame
+advance_cfa s (SaveFp r v b) os = cfa_on s.frame _ s.total os _ refl
+advance_cfa s (SetFpRegister b) os = go s.frame
   where
-    go : (x : Option F.Frame) → cfa_left (Some (unwrap_or x (record { register = f; offset = o; place = s.total }))) (s.total + 0) os ≡ cfa_left x s.total (SetFpRegister f o ∷ os)
+    go : (x : Option F.Frame) → cfa_left (Some (unwrap_or x (record { base = b; place = s.total }))) (s.total + 0) os ≡ cfa_left x s.total (SetFpRegister b ∷ os)
     go None = refl
     go (Some x) = refl
 advance_cfa s (PushMachineFrame e) os = cfa_on s.frame _ s.total os _ refl
@@ -109,8 +109,8 @@ unfolding again advance grown framed machined is_set
 advance_again s (PushNonVolatile r) S n = let e : 0 + n ≡ n = omega arith in rw e
 advance_again s (Alloc v) S n = let e : 0 + n ≡ n = omega arith in rw e
 advance_again s (SaveRsp r v) S n = let e : 0 + n ≡ n = omega arith in rw e
-advance_again s (SaveFp r v f o) S n = let e : 0 + n ≡ n = omega arith in rw e
-advance_again s (SetFpRegister f o) S n = elim (is_some s.frame) as (λ t. ((t || s.twice) || ltb 1 (1 + n)) ≡ (s.twice || ltb 1 (cond t 1 0 + (1 + n)))) [
+advance_again s (SaveFp r v b) S n = let e : 0 + n ≡ n = omega arith in rw e
+advance_again s (SetFpRegister b) S n = elim (is_some s.frame) as (λ t. ((t || s.twice) || ltb 1 (1 + n)) ≡ (s.twice || ltb 1 (cond t 1 0 + (1 + n)))) [
   | true ↦ rw (lt-ltb 1 (1 + (1 + n)) (omega arith), or-true s.twice)
   | false ↦ let e : 0 + (1 + n) ≡ 1 + n = omega arith in rw e
 ]

@@ -8,4 +8,4 @@ use Rattle.x64.proofs.judge.scan_chain.Given as goal
 abbrev pub invariant-loop-op : goal.invariant-loop-op
 invariant-loop-op l =
     let left = l.op-iterator in
-    scanned l.scan (left_to_run left.body.words.now left.left left.info.register left.info.offset left.info.ops.now) ≡ scanned scan_start (chain l.body.words.now)
+    scanned l.scan (left_to_run left.body.words.now left.left left.info.base left.info.ops.now) ≡ scanned scan_start (chain l.body.words.now)

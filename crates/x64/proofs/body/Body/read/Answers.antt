@@ -26,14 +26,14 @@ pub returns-then-not-fits : goal.returns-then-not-fits
 returns-then-not-fits c =
     let n = c.word-infos.result - c.loop.counter in
     sym c.loop.invariant ∙ fit_more c.loop.rest.now n (omega arith) c.in_ok-info.ensures.1 c.in_ok-info.ensures.0
-    ∙ sym (and_no (fits_in c.in_ok-info.info.register c.in_ok-info.info.offset c.in_ok-info.info.ops.now) _ (sym c.fits.ensures ∙ c.if-not-fits.true))
+    ∙ sym (and_no (fits_in c.in_ok-info.info.base c.in_ok-info.info.ops.now) _ (sym c.fits.ensures ∙ c.if-not-fits.true))
 
 pub loop-preserved : goal.loop-preserved
 loop-preserved c =
     let n = c.word-infos.result - c.loop.counter in
     let e : c.word-infos.result - (c.loop.counter + 1) ≡ n - 1 = omega arith in
     rw (e, c.in_ok-info.ensures.2)
-    (and_yes (fits_in c.in_ok-info.info.register c.in_ok-info.info.offset c.in_ok-info.info.ops.now) _ (sym c.fits.ensures ∙ c.if-not-fits.false)
+    (and_yes (fits_in c.in_ok-info.info.base c.in_ok-info.info.ops.now) _ (sym c.fits.ensures ∙ c.if-not-fits.false)
     ∙ sym (fit_more c.loop.rest.now n (omega arith) c.in_ok-info.ensures.1 c.in_ok-info.ensures.0) ∙ c.loop.invariant)
 
 pub returns-then-not-is_empty : goal.returns-then-not-is_empty

@@ -5,8 +5,8 @@ use Rattle.x64.proofs.body.ChainIterator.next.Given as goal
 
 abbrev pub invariant-loop-self : goal.invariant-loop-self
 invariant-loop-self l =
-    left_to_run l.self.body.words.now l.self.left l.self.info.register l.self.info.offset l.self.info.ops.now
-    ≡ left_to_run l.fn.self.body.words.now l.fn.self.left l.fn.self.info.register l.fn.self.info.offset l.fn.self.info.ops.now
+    left_to_run l.self.body.words.now l.self.left l.self.info.base l.self.info.ops.now
+    ≡ left_to_run l.fn.self.body.words.now l.fn.self.left l.fn.self.info.base l.fn.self.info.ops.now
 
 abbrev pub decreases-loop-self : goal.decreases-loop-self
 decreases-loop-self l = l.self.left

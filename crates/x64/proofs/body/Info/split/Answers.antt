@@ -13,6 +13,6 @@ returns c =
     let l : 3 * n ≤ length (drop 3 ws) = rw (length-drop 3 ws) (omega arith) in
     let cut = rw e at c.as_chunks.ensures.front in (
       omega (arith, c.word.ensures),
-      record { register_is = refl; offset_is = refl; ops_are = cut ∙ first_chunks_cut n (drop 3 ws) l ∙ ap (λ k. first_chunks 3 k (drop 3 ws)) c.word.ensures },
+      record { base_is = refl; ops_are = cut ∙ first_chunks_cut n (drop 3 ws) l ∙ ap (λ k. first_chunks 3 k (drop 3 ws)) c.word.ensures },
       take_all _ _ (omega (arith, length-drop (3 + 3 * n) ws)) ∙ ap (λ k. drop (3 + 3 * k) ws) c.word.ensures,
     )
