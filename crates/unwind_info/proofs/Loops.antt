@@ -17,8 +17,8 @@ use Rattle.unwind_info.specs.Index.{info_length, parts_first, parts_none, part_w
 
 -- ---- the first part, and those behind it
 
-none : (bs : List ℕ) → length bs ≡ 0 → parts bs ≡ []
-none bs e = ap parts (nil_from_length bs e) ∙ parts_none
+pub no_parts : (bs : List ℕ) → length bs ≡ 0 → parts bs ≡ []
+no_parts bs e = ap parts (nil_from_length bs e) ∙ parts_none
 
 module _ (p : List ℕ) (ps : List (List ℕ)) where
   -- where it is not turned away, those behind it decide
@@ -92,7 +92,7 @@ pub record Headers (bs : List ℕ) (p s : ℕ) : Type 0 where
 pub check_end : {bs rest : List ℕ} {p s : ℕ} → Checking bs rest p s → length rest ≡ 0 → Headers bs p s
 unfolding x64_number first_refused infos_words
 check_end {bs} {rest} {p} {s} g e =
-    let z = none rest e in
+    let z = no_parts rest e in
     let w : first_refused (parts bs) ≡ 0 = sym g.number ∙ ap first_refused z in
     let n : p ≡ length (parts bs) = omega (arith, g.count, ap length z) in
     record {

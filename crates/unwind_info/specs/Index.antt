@@ -207,6 +207,10 @@ module _ (f : ℕ) where
   unfolding codes_in
   operations_none = refl
 
+  pub no_operations : (bs : List ℕ) → length bs ≡ 0 → operations bs ≡ []
+  no_operations [] h = operations_none
+  no_operations (b ∷ bs) h = absurd (omega arith)
+
   -- the first one, and those behind it: none behind one that is undecodable
   pub operations_last : (bs : List ℕ) → 2 ≤ length bs → taken (length bs / 2) (code_at f bs) ≡ None → operations bs ≡ Undecodable ∷ []
   operations_last bs h e = codes_first (length bs / 2) bs (omega arith) ∙ rw e refl

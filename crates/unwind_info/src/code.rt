@@ -133,6 +133,7 @@ impl<'a> Iterator for Operations<'a> {
 
     ghost remaining = { item_count (λ s. operations s.frame s.slots.now) };
 
+    #[tactic(auto, using(crate::specs::Index::operations_last, crate::specs::Index::no_operations))]
     fn next(&mut self) -> Option<Operation> {
         if self.slots.is_empty() {
             return None;

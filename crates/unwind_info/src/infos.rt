@@ -27,6 +27,7 @@ impl<'a> Iterator for Parts<'a> {
 
     ghost remaining = { item_count (λ s. parts_of s.bytes.now) };
 
+    #[tactic(auto, using(crate::proofs::Loops::first_there, crate::proofs::Loops::behind_good, crate::specs::Index::parts_first, crate::proofs::Loops::no_parts))]
     fn next(&mut self) -> Option<Part<'a>> {
         if self.bytes.is_empty() {
             return None;
@@ -91,6 +92,7 @@ impl<'a> Infos<'a> {
     }
 
     // How many it has.
+    #[tactic(auto, using(crate::proofs::Loops::infos_none))]
     fn count_words(self) -> usize
         ensures { result ≡ 4 + length (infos_words (parts_of self.entry.bytes.now)) }
     {
@@ -112,6 +114,7 @@ impl<'a> Infos<'a> {
     }
 
     // The infos, in a room that is long enough.
+    #[tactic(auto, using(fill::specs::Fill::Laws::fitting_all))]
     pub(crate) fn put(self, out: &mut [u32], at: usize) -> usize
         requires { at + length (infos_words (parts_of self.bytes.now)) ≤ length out.old }
         ensures { Put out.old at (infos_words (parts_of self.entry.bytes.now)) out.new result }

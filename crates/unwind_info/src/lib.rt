@@ -73,6 +73,7 @@ pub struct UnwindCode {
 }
 
 // The body of a function whose unwind bytes these are.
+#[tactic(auto, using(crate::proofs::Loops::decode_refused, crate::proofs::Loops::decode_short))]
 pub fn decode_x64(
     bytes: &[u8],
     begin: u32,

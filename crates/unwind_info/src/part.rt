@@ -32,6 +32,7 @@ impl<'a> Part<'a> {
         ensures ok { IfOk result (λ p. (p.bytes.now ≡ bytes.now) × (part_number bytes.now ≡ 0)) }
         ensures err { IfErr result (λ r. number r ≡ part_number bytes.now) }
     {
+        // no byte is of no version
         if bytes.first().copied().unwrap_or(0) % 8 != VERSION {
             return Err(Refusal::Version);
         }
@@ -94,6 +95,7 @@ impl<'a> Part<'a> {
     }
 
     // How many words its info has.
+    #[tactic(auto, using(crate::specs::Index::info_size))]
     pub(crate) fn count_words(self) -> usize
         ensures { (result ≡ length (info_words self.entry.bytes.now)) × (result ≤ 768) }
     {

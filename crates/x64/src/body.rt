@@ -230,7 +230,7 @@ impl<'a> Iterator for Chain<'a> {
     ghost remaining = { item_count (λ s. left_to_run s.body.words.now s.left s.info.base s.info.ops.now) };
 
     fn next(&mut self) -> Option<Op> {
-        // infos may have no operations
+        // no `for`: past infos without operations, of which there may be any number
         while self.info.ops.is_empty() && 0 < self.left {
             self.left -= 1;
             self.info = self.body.info(self.left);

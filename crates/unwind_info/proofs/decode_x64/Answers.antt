@@ -1,20 +1,8 @@
 -- `decode_x64`: turned away by its parts or its room, or filled.
-use Rattle.std.proofs.Common.{sym, rules}
+use Rattle.std.proofs.Common.{sym}
 use Rattle.text.specs.Text.Laws.{◌⨾◌}
-use Rattle.unwind_info.proofs.Loops.{decode_refused, decode_short, decode_filled}
+use Rattle.unwind_info.proofs.Loops.{decode_filled}
 use Rattle.unwind_info.proofs.decode_x64.Goals as goal
-
-pub returns-in_err-infos : goal.returns-in_err-infos
-returns-in_err-infos c =
-    let a = c.args in
-    let r = decode_refused a.bytes.now a.begin a.end a.info_address a.body.now c.in_err-infos.field-0.0 c.in_err-infos.ensures.err in
-    search (rules, r)
-
-pub returns-then-not-fits : goal.returns-then-not-fits
-returns-then-not-fits c =
-    let a = c.args in
-    let o = c.in_ok-infos.ensures.ok in
-    decode_short a.bytes.now a.begin a.end a.info_address a.body.now o.1 (sym (rw o.0 at c.if-not-fits.ensures))
 
 pub returns : goal.returns
 returns c =

@@ -1,7 +1,7 @@
 -- `count_words`: one info's words more are counted.
 use Rattle.std.proofs.Common.{arith, ap, length, length-append}
 use Rattle.unwind_info.specs.UnwindInfo.{parts, info_words, infos_words}
-use Rattle.unwind_info.proofs.Loops.{infos_first, infos_none}
+use Rattle.unwind_info.proofs.Loops.{infos_first}
 use Rattle.unwind_info.proofs.infos.Infos.count_words.Goals as goal
 
 pub overflow_add-words : goal.overflow_add-words
@@ -21,6 +21,3 @@ loop-part-preserved c = record {
         length-append (info_words x) (infos_words (parts c.next.new.self.bytes.now)),
       );
 }
-
-pub returns : goal.returns
-returns c = omega (arith, c.loop-part.invariant.sum, ap length (infos_none _ c.in-None.ensures.steps.0))

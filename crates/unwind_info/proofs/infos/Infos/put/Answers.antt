@@ -1,16 +1,9 @@
 -- `put`: one info more is put.
 use Rattle.std.proofs.Common.{arith, ap, length, length-append}
-use Rattle.fill.specs.Fill.Laws.{fitting_all, fitting_room, fitting_put, fitting_none}
+use Rattle.fill.specs.Fill.Laws.{fitting_room, fitting_put, fitting_none}
 use Rattle.unwind_info.specs.UnwindInfo.{parts, info_words, infos_words}
 use Rattle.unwind_info.proofs.Loops.{infos_first, infos_none}
 use Rattle.unwind_info.proofs.infos.Infos.put.Goals as goal
-
-pub loop-part-init : goal.loop-part-init
-loop-part-init c = record {
-  can = tt;
-  ends = tt;
-  left = rw (c.into_iter-part-iterator.ensures.into_iter_gives, c.parts-part-items.ensures) (fitting_all c.requires (omega arith));
-}
 
 pub put-p-requires : goal.put-p-requires
 put-p-requires c =
