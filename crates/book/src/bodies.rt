@@ -6,14 +6,15 @@ ghost use Rattle.book.specs.Book.{contents_ok};
 use crate::{Kind, contents, count_of, kind_of, size_of, start_of};
 use refusal::Refusal;
 
-// The words of a book, which keep the rules.
+// The words of a book that keeps the contents rules.
 #[derive(Clone, Copy)]
 pub struct Book<'a> {
     pub words: &'a [u32],
     pub ghost kept: { contents_ok words.now ≡ true },
 }
 
-// The bodies of a book from one on.
+// The bodies of a book from one on, by its number. As the contents pairs that are left it would hold the book beside them, and a fact that ties
+// the two: no plainer.
 #[derive(Clone, Copy)]
 pub struct Bodies<'a> {
     pub book: Book<'a>,

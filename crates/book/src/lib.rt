@@ -30,31 +30,30 @@ pub fn count_of(book: &[u32]) -> usize
     word(book, 1) as usize
 }
 
-// A word of contents pair i, 0 its first and 1 its second; 0 past the book.
-fn pair_word(book: &[u32], i: usize, k: usize) -> usize
-    requires { k ≤ 1 }
-    ensures { result ≡ get_or book.now (2 + 2 * i + k) 0 }
+// Contents pair i: where body i starts, and how many words it has; a word past the book reads 0.
+#[tactic(auto, unfolding(crate::specs::Book::start_of, crate::specs::Book::size_of))]
+fn pair(book: &[u32], i: usize) -> (usize, usize)
+    ensures { (result.0 ≡ start_of book.now i) × (result.1 ≡ size_of book.now i) }
 {
     if book.len() / 2 <= i {
-        return 0;
+        return (0, 0);
     }
-    word(book, 2 + 2 * i + k) as usize
+    let at = 2 + 2 * i;
+    (word(book, at) as usize, word(book, at + 1) as usize)
 }
 
 // Where body i starts.
-#[tactic(auto, unfolding(crate::specs::Book::start_of))]
 pub fn start_of(book: &[u32], i: usize) -> usize
     ensures { result ≡ start_of book.now i }
 {
-    pair_word(book, i, 0)
+    pair(book, i).0
 }
 
 // How many words body i has.
-#[tactic(auto, unfolding(crate::specs::Book::size_of))]
 pub fn size_of(book: &[u32], i: usize) -> usize
     ensures { result ≡ size_of book.now i }
 {
-    pair_word(book, i, 1)
+    pair(book, i).1
 }
 
 fn is_kind(number: u32) -> bool

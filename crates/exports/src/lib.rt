@@ -23,9 +23,8 @@ pub extern "C" fn stacklines_translate(
     ensures { Exported (outcome book.now limit work.old text.old) counts.old work.new text.new counts.new result }
 {
     let r = translate::translate(book, limit, work, text);
-    if 2 <= counts.len() {
-        counts[0] = r.entries as u64;
-        counts[1] = r.length as u64;
+    if let Some(places) = counts.first_chunk_mut() {
+        *places = [r.entries as u64, r.length as u64];
     }
     answer_number(r.answer)
 }

@@ -73,11 +73,11 @@ fn step(
     kind: Kind,
     limit: u32,
     body: &[u32],
-    work: &mut [u8],
+    work: &mut [u8; AREA],
     text: &mut [u8],
     next: Next,
 ) -> Result<Next, Refusal>
-    requires { (length work.old ≡ AREA) × (next.used ≤ length text.old) }
+    requires { next.used ≤ length text.old }
     ensures { Stepped (entry_of (kind_number kind) limit next.last body.now) text.old next.used text.new result }
 {
     let wrote = process(kind, limit, next.last, body, work, 0)?;
@@ -95,8 +95,7 @@ fn step(
 }
 
 // The entries in turn.
-fn entries(book: Book<'_>, limit: u32, work: &mut [u8], text: &mut [u8]) -> Returned
-    requires { length work.old ≡ AREA }
+fn entries(book: Book<'_>, limit: u32, work: &mut [u8; AREA], text: &mut [u8]) -> Returned
     ensures { Ended (walk_of book.entry.words.now limit (length text.old)) text.old text.new result }
 {
     let kind = book.kind();
@@ -126,10 +125,9 @@ fn entries(book: Book<'_>, limit: u32, work: &mut [u8], text: &mut [u8]) -> Retu
 }
 
 // The entries in turn, through a work area that is left clear.
-fn run(book: Book<'_>, limit: u32, work: &mut [u8], text: &mut [u8]) -> Returned
-    requires { length work.old ≡ AREA }
+fn run(book: Book<'_>, limit: u32, work: &mut [u8; AREA], text: &mut [u8]) -> Returned
     ensures ended { Ended (walk_of book.entry.words.now limit (length text.old)) text.old text.new result }
-    ensures work_after { work.new ≡ replicate (length work.old) 0 }
+    ensures work_after { work.new ≡ replicate AREA 0 }
 {
     let r = entries(book, limit, work, text);
     clear(work);
@@ -140,14 +138,14 @@ fn run(book: Book<'_>, limit: u32, work: &mut [u8], text: &mut [u8]) -> Returned
 pub fn translate(book: &[u32], limit: u32, work: &mut [u8], text: &mut [u8]) -> Returned
     ensures { Called (outcome book.now limit work.old text.old) work.new text.new result }
 {
-    if work.len() < AREA {
+    let Some(work) = work.first_chunk_mut::<AREA>() else {
         return Returned::refused(Refusal::Work);
-    }
+    };
     if MOST_LIMIT < limit {
         return Returned::refused(Refusal::Limit);
     }
     match Book::read(book) {
-        Ok(book) => run(book, limit, &mut work[..AREA], text),
+        Ok(book) => run(book, limit, work, text),
         Err(refusal) => Returned::refused(refusal),
     }
 }

@@ -10,9 +10,9 @@ use Rattle.records.proofs.same_records.Goals as goal
 pub returns : goal.returns
 returns c =
     let a = c.args in
-    let p = c.translate-a in
-    let q = c.translate-b in
+    let p = c.translate-first in
+    let q = c.translate-second in
     let of : ℕ → ℕ → Compared
     = λ (k l : ℕ). compared_of (answer_number p.result.answer) (answer_number q.result.answer) k l (take p.result.length p.new.text) (take q.result.length q.new.text) in
-    let e : c.compare.result ≡ of (kind a.book_a.now) (kind a.book_b.now) = c.compare.ensures ∙ ap₂ of c.kind_of-first.ensures c.kind_of-second.ensures in
+    let e : c.compare.result ≡ of (kind a.book_a.now) (kind a.book_b.now) = c.compare.ensures ∙ ap₂ of c.kind_of.ensures c.kind_of-2.ensures in
     compares a.book_a.now a.limit_a a.work_a.now a.text_a.now a.book_b.now a.limit_b a.work_b.now a.text_b.now p.ensures q.ensures e

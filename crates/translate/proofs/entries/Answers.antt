@@ -13,13 +13,12 @@ loop-body-init c =
     let h = contents_header b c.args.book.kept in
     let small : length c.args.text.now < MAX = omega arith in
     record {
-      area = c.requires;
       few = omega (arith, ap length e, bodies_count b, h.few);
       going = going_none b c.args.limit c.args.text.now (left c.into_iter-body-iterator.result) e small;
     }
 
 pub step-requires : goal.step-requires
-step-requires c = (c.loop-body.invariant.area, omega (arith, c.loop-body.invariant.going.fits, c.loop-body.auto.text))
+step-requires c = omega (arith, c.loop-body.invariant.going.fits, c.loop-body.auto.text)
 
 pub returns-in-Err : goal.returns-in-Err
 returns-in-Err c =
@@ -28,7 +27,6 @@ returns-in-Err c =
 
 pub loop-body-preserved : goal.loop-body-preserved
 loop-body-preserved c = record {
-  area = omega (arith, c.step.auto.work, c.loop-body.invariant.area);
   few = omega (arith, ap length c.in-Some.ensures.steps, c.loop-body.invariant.few);
   going = going_more c.loop-body.invariant.going c.in-Some.body.now (left c.next.new.self) c.in-Some.ensures.steps c.in-Ok.after c.step.new.text
       (rw c.kind-kind.ensures at c.in-Ok.ensures);

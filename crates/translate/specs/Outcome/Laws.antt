@@ -1,6 +1,6 @@
 -- What the functions of the call promise each other, and that the call keeps its contract.
 use Rattle.std.specs.Prelude.{◌≡◌, refl, List, [], ◌∷◌, ◌++◌, true, false, Result, Ok, Err, MatchResult, length, take, drop, replicate}
-use Rattle.std.proofs.Common.{◌∙◌, add-one, length-take-le}
+use Rattle.std.proofs.Common.{◌∙◌, add-one, take-append-drop}
 use Prim.Native.Nat.{ℕ, zero, suc, ◌+◌, ◌-◌, ◌≤◌, ◌<◌}
 use native.Mathlib.Omega.{arith}
 use borrow.Author.Tests.{lt-ltb, le-ltb}
@@ -102,9 +102,6 @@ module _ {b : List ℕ} {l : ℕ} {t₀ : List ℕ} {n : Next} {i : ℕ} {bs : L
 
 -- ---- the call
 
-zeros : (n : ℕ) (w a : List ℕ) → n ≤ length w → a ≡ replicate (length (take n w)) 0 → a ++ drop n w ≡ replicate n 0 ++ drop n w
-zeros n w a h e = rw (e, length-take-le n w h)
-
 -- what 1 to 3 return
 abbrev none_done : Refusal → Returned
 none_done r = record { answer = Err r; entries = 0; length = 0 }
@@ -117,23 +114,24 @@ module _ (b : List ℕ) (l : ℕ) (w t : List ℕ) where
   unfolding outcome
   called_1 h = rw (lt-ltb (length w) AREA h) (called_refused Work w t)
 
-  module _ (h : AREA ≤ length w) where
-    pub called_2 : MOST_LIMIT < l → Called (outcome b l w t) w t (none_done Limit)
+  -- the work area is the first bytes of what is lent for it; the rest stays behind it
+  module _ (h : AREA ≤ length w) (a : List ℕ) where
+    pub called_2 : a ≡ take AREA w → MOST_LIMIT < l → Called (outcome b l w t) (a ++ drop AREA w) t (none_done Limit)
     unfolding outcome
-    called_2 k = rw (le-ltb (length w) AREA h, lt-ltb MOST_LIMIT l k) (called_refused Limit w t)
+    called_2 s k = rw (s, take-append-drop AREA w, le-ltb (length w) AREA h, lt-ltb MOST_LIMIT l k) (called_refused Limit w t)
 
-    pub called_3 : l ≤ MOST_LIMIT → contents_ok b ≡ false → Called (outcome b l w t) w t (none_done Contents)
+    pub called_3 : a ≡ take AREA w → l ≤ MOST_LIMIT → contents_ok b ≡ false → Called (outcome b l w t) (a ++ drop AREA w) t (none_done Contents)
     unfolding outcome
-    called_3 k e = rw (le-ltb (length w) AREA h, le-ltb MOST_LIMIT l k, e) (called_refused Contents w t)
+    called_3 s k e = rw (s, take-append-drop AREA w, le-ltb (length w) AREA h, le-ltb MOST_LIMIT l k, e) (called_refused Contents w t)
 
-    pub called_ran : l ≤ MOST_LIMIT → contents_ok b ≡ true → (a t' : List ℕ) (r : Returned) → length t' ≡ length t → Ended (walk_of b l (length t)) t t' r
-        → a ≡ replicate (length (take AREA w)) 0 → Called (outcome b l w t) (a ++ drop AREA w) t' r
+    pub called_ran : l ≤ MOST_LIMIT → contents_ok b ≡ true → (t' : List ℕ) (r : Returned) → length t' ≡ length t → Ended (walk_of b l (length t)) t t' r
+        → a ≡ replicate AREA 0 → Called (outcome b l w t) (a ++ drop AREA w) t' r
     unfolding outcome cleared
-    called_ran k e a t' r q p z = rw (le-ltb (length w) AREA h, le-ltb MOST_LIMIT l k, e) (record {
+    called_ran k e t' r q p z = rw (le-ltb (length w) AREA h, le-ltb MOST_LIMIT l k, e) (record {
       number_is = p.number_is;
       entries_is = p.entries_is;
       length_is = p.length_is;
-      work_is = zeros AREA w a h z;
+      work_is = rw z refl;
       text_is = p.text_is;
       fits = omega (arith, p.fits);
     })
