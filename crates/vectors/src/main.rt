@@ -5,108 +5,113 @@
 // words, the book, the text padded with zeros to whole words. Another run of cases may follow, with its own number before it.
 #![tactic(auto)]
 
-ghost use Rattle.std.specs.Prelude.{◌≡◌, ◌<◌, ◌≤◌, length, IfSome};
-
 use refusal::answer_number;
 use std::alloc::{AllocError, Global};
 use std::io;
-use std::io::{ErrorKind, Read};
+use std::io::Read;
 
-// A call, and what is due of it. The book is in words of four bytes.
-#[derive(Clone, Copy)]
-struct Case<'a> {
+// The largest book and the longest text of a case, in words and in bytes; a case that has more counts as one that differs.
+const MOST_WORDS: usize = 4096;
+
+const MOST_TEXT: usize = 8192;
+
+// A run of more cases counts as one of none.
+const MOST_CASES: u32 = 65536;
+
+const MOST_RUNS: u32 = 16;
+
+// A call, and what is due of it.
+#[derive(Drop)]
+struct Case {
     limit: u32,
     number: u32,
     entries: u32,
-    book: &'a [u8],
-    text: &'a [u8],
+    book: Vec<u32>,
+    text: Vec<u8>,
 }
-
-// What is left of the input.
-#[derive(Drop)]
-struct Input<'a>(&'a [u8]);
 
 // ---- reading
 
-impl<'a> Input<'a> {
-    fn bytes(&mut self, n: usize) -> Option<&'a [u8]>
-        ensures len { IfSome result (λ b. length b.now ≡ n) }
-        ensures rest { length self.new.0.now ≤ length self.old.0.now }
-    {
-        let (bytes, rest) = self.0.split_at_checked(n)?;
-        self.0 = rest;
-        Some(bytes)
-    }
+// The next n bytes of the input, and zeros in place of those behind its end.
+fn read_bytes<R: Read>(alloc: Global, reader: &mut R, n: usize) -> Result<Vec<u8>, AllocError> {
+    let mut bytes = vec![in alloc; 0; n]?;
+    input::read_full(reader, &mut bytes);
+    Ok(bytes)
+}
 
-    fn word(&mut self) -> Option<u32>
-        ensures some { IfSome result (λ _. length self.new.0.now < length self.old.0.now) }
-        ensures rest { length self.new.0.now ≤ length self.old.0.now }
-    {
-        let (word, rest) = self.0.split_first_chunk::<4>()?;
-        self.0 = rest;
-        Some(u32::from_le_bytes(*word))
+// The next word of the input, and 0 where it ends before the word does.
+fn read_word<R: Read>(reader: &mut R) -> u32 {
+    let mut bytes = [0; 4];
+    match input::read_full(reader, &mut bytes) {
+        4 => u32::from_le_bytes(bytes),
+        _ => 0,
     }
+}
 
-    fn case(&mut self) -> Option<Case<'a>>
-        ensures rest { length self.new.0.now ≤ length self.old.0.now }
-    {
-        let limit = self.word()?;
-        let number = self.word()?;
-        let entries = self.word()?;
-        let length = self.word()? as usize;
-        let size = self.word()? as usize;
-        let book = self.bytes(4 * size)?;
-        let padded = self.bytes(length.next_multiple_of(4))?;
-        Some(Case {
+impl Case {
+    // The next case of the input, and none where its book or its text is too long.
+    fn read<R: Read>(alloc: Global, reader: &mut R) -> Result<Option<Case>, AllocError> {
+        let limit = read_word(reader);
+        let number = read_word(reader);
+        let entries = read_word(reader);
+        let length = read_word(reader) as usize;
+        let size = read_word(reader) as usize;
+        if MOST_TEXT < length || MOST_WORDS < size {
+            return Ok(None);
+        }
+        let bytes = read_bytes(alloc, reader, 4 * size)?;
+        let mut text = read_bytes(alloc, reader, length.next_multiple_of(4))?;
+        text.truncate(length);
+        let (words, _) = bytes.as_chunks::<4>();
+        Ok(Some(Case {
             limit,
             number,
             entries,
-            book,
-            text: &padded[..length],
-        })
+            book: words.iter().map(|w| u32::from_le_bytes(*w)).collect(alloc)?,
+            text,
+        }))
     }
-}
 
-// The cases of all runs; an input that ends inside of one is an error.
-fn cases(alloc: Global, bytes: &[u8]) -> io::Result<Vec<Case<'_>>> {
-    let mut input = Input(bytes);
-    let mut cases = Vec::new(alloc);
-    while let Some(count) = input.word() {
-        for _ in 0..count {
-            cases.push(input.case().ok_or(ErrorKind::UnexpectedEof)?)?;
-        }
-    }
-    Ok(cases)
-}
+    // ---- comparing
 
-// ---- comparing
-
-impl Case<'_> {
     // Whether the port answers as is due.
     fn agrees(&self, alloc: Global) -> Result<bool, AllocError> {
-        let (words, _) = self.book.as_chunks::<4>();
-        let book: Vec<u32> = words.iter().map(|w| u32::from_le_bytes(*w)).collect(alloc)?;
         let mut work = vec![in alloc; 0; 8192]?;
         let mut text = vec![in alloc; 0; 65536]?;
-        let r = translate::translate(&book, self.limit, &mut work, &mut text);
+        let r = translate::translate(&self.book, self.limit, &mut work, &mut text);
         Ok(
             answer_number(r.answer) == self.number
                 && r.entries == self.entries as usize
-                && &text[..r.length] == self.text,
+                && text[..r.length] == self.text[..],
         )
     }
 }
 
-fn main(rt: HostRuntime) -> io::Result<()> {
-    let mut bytes = Vec::new(rt.alloc());
-    rt.reader().read_to_end(&mut bytes)?;
-    let cases = cases(rt.alloc(), &bytes)?;
-    let mut differ = 0usize;
-    for (index, case) in cases.iter().enumerate() {
-        if !case.agrees(rt.alloc())? {
-            println!(rt; "{index} differs")?;
-            differ += 1;
-        }
+// How many cases the next run has.
+fn read_count<R: Read>(reader: &mut R) -> u64 {
+    match read_word(reader) {
+        count @ ..=MOST_CASES => count as u64,
+        _ => 0,
     }
-    println!(rt; "{} cases, {differ} differ", cases.len())
+}
+
+fn main(rt: HostRuntime) -> io::Result<()> {
+    let mut reader = rt.reader();
+    let mut done = 0u64;
+    let mut differ = 0u64;
+    for _ in 0..MOST_RUNS {
+        let end = done.saturating_add(read_count(&mut reader));
+        for index in done..end {
+            let agrees = match Case::read(rt.alloc(), &mut reader)? {
+                Some(case) => case.agrees(rt.alloc())?,
+                None => false,
+            };
+            if !agrees {
+                println!(rt; "{index} differs")?;
+                differ = differ.saturating_add(1);
+            }
+        }
+        done = end;
+    }
+    println!(rt; "{done} cases, {differ} differ")
 }
