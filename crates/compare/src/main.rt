@@ -4,6 +4,7 @@
 use records::Compared;
 use std::alloc::{AllocError, Global};
 use std::fs::File;
+use std::io::Read;
 use std::rt::Files;
 use std::{env, io};
 
@@ -35,19 +36,22 @@ fn fail(rt: &(impl Eprint + AllocGlobal), path: &str, error: io::Error) -> io::R
     }
 }
 
-// The book in the file of this name; none if there is no such file, which is said.
-fn read<R: Files + Eprint + AllocGlobal>(rt: &R, path: &str) -> io::Result<Option<Vec<u32>>> {
-    let mut file = match File::open(rt, path) {
-        Ok(file) => file,
+// The file of this name; none if there is none, which is said.
+fn opened<R: Files + Eprint + AllocGlobal>(rt: &R, path: &str) -> io::Result<Option<R::File>> {
+    match File::open(rt, path) {
+        Ok(file) => Ok(Some(file)),
         Err(error) => {
             fail(rt, path, error)?;
-            return Ok(None);
+            Ok(None)
         }
-    };
-    let mut book = vec![in rt.alloc(); 0; 16384]?;
-    let n = input::read_book(&mut file, &mut book);
+    }
+}
+
+fn read<R: Read>(alloc: Global, file: &mut R) -> Result<Vec<u32>, AllocError> {
+    let mut book = vec![in alloc; 0; 16384]?;
+    let n = input::read_book(file, &mut book);
     book.truncate(n);
-    Ok(Some(book))
+    Ok(book)
 }
 
 fn say_refusal(rt: &(impl Print + AllocGlobal), which: &str, book: &[u32]) -> io::Result<()> {
@@ -92,11 +96,13 @@ fn main(rt: HostRuntime) -> io::Result<()> {
     let (Some(first), Some(second), None) = (args.next(), args.next(), args.next()) else {
         return eprintln!(rt; "compare FILE FILE");
     };
-    let Some(a) = read(&rt, first.as_str())? else {
+    let Some(mut first) = opened(&rt, first.as_str())? else {
         return Ok(());
     };
-    let Some(b) = read(&rt, second.as_str())? else {
+    let Some(mut second) = opened(&rt, second.as_str())? else {
         return Ok(());
     };
+    let a = read(rt.alloc(), &mut first)?;
+    let b = read(rt.alloc(), &mut second)?;
     say(&rt, &a, &b)
 }
