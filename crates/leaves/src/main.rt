@@ -45,7 +45,7 @@ fn put_number(out: &mut [u8], at: usize, n: u32) -> usize {
 }
 
 fn show_cfi(rt: &impl Print, family: u32, register: u32) -> io::Result<()> {
-    if names::cfi_register_name(family, register).len == 0 {
+    if !names::has_cfi_name(family, register) {
         return Ok(());
     }
     show(rt, b"cfi ", |out, p| {
