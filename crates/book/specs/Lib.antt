@@ -1,3 +1,4 @@
 pub mod Book
 pub mod Kind
 pub mod Bodies
+pub mod Pairs

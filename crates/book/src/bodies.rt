@@ -1,9 +1,11 @@
 // A book that keeps the contents rules, and its bodies in order.
 ghost use Rattle.std.specs.Prelude.{◌≡◌, true};
+ghost use Rattle.std.specs.List.{list_all};
 ghost use Rattle.std.specs.Iterator.{YieldsFirstRef, item_count};
 ghost use Rattle.book.specs.Book.{contents_ok};
+ghost use Rattle.book.specs.Pairs.{is_inside};
 
-use crate::{Kind, contents, count_of, kind_of, size_of, start_of};
+use crate::{Kind, contents, count_of, kind_of};
 use refusal::Refusal;
 
 // The words of a book that keeps the contents rules.
@@ -13,12 +15,12 @@ pub struct Book<'a> {
     pub ghost kept: { contents_ok words.now ≡ true },
 }
 
-// The bodies of a book from one on, by its number. As the contents pairs that are left it would hold the book beside them, and a fact that ties
-// the two: no plainer.
+// The bodies that are left of a book's words, by their contents pairs: where each starts, and how many words it has.
 #[derive(Clone, Copy)]
 pub struct Bodies<'a> {
-    pub book: Book<'a>,
-    pub next: usize,
+    pub words: &'a [u32],
+    pub pairs: &'a [[u32; 2]],
+    pub ghost inside: { list_all (is_inside words.now) pairs.now ≡ true },
 }
 
 impl<'a> Book<'a> {
@@ -37,6 +39,7 @@ impl<'a> Book<'a> {
     }
 
     // One of the four: the rules ask for it.
+    #[tactic(auto, using(crate::specs::Kind::Laws::has_kind))]
     pub fn kind(self) -> Kind
         ensures { kind_number result ≡ kind self.entry.words.now }
     {
@@ -47,12 +50,14 @@ impl<'a> Book<'a> {
     }
 
     // Every body, in order.
+    #[tactic(auto, using(crate::specs::Book::Laws::contents_header))]
     pub fn bodies(self) -> Bodies<'a>
         ensures { left result ≡ bodies self.entry.words.now }
     {
+        let (pairs, _) = self.words[2..].as_chunks();
         Bodies {
-            book: self,
-            next: 0,
+            words: self.words,
+            pairs: &pairs[..count_of(self.words)],
         }
     }
 }
@@ -66,14 +71,11 @@ impl<'a> Iterator for Bodies<'a> {
 
     ghost remaining = { item_count left };
 
+    #[tactic(auto, using(crate::specs::Pairs::Laws::pair_inside))]
     fn next(&mut self) -> Option<&'a [u32]> {
-        let book = self.book.words;
-        let i = self.next;
-        if count_of(book) <= i {
-            return None;
-        }
-        let start = start_of(book, i);
-        self.next = i + 1;
-        Some(&book[start..start + size_of(book, i)])
+        let (&[start, size], behind) = self.pairs.split_first()?;
+        self.pairs = behind;
+        let start = start as usize;
+        Some(&self.words[start..start + size as usize])
     }
 }

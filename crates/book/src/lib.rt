@@ -56,6 +56,7 @@ pub fn size_of(book: &[u32], i: usize) -> usize
     pair(book, i).1
 }
 
+#[tactic(auto, using(crate::specs::Kind::Laws::decodes))]
 fn is_kind(number: u32) -> bool
     ensures { result ≡ (leb 1 number && leb number KINDS) }
 {
@@ -73,6 +74,7 @@ fn header_ok(book: &[u32]) -> bool
 }
 
 // The bodies of n contents pairs follow each other without gaps and end the book.
+#[tactic(auto, using(crate::proofs::Laws::apart, crate::proofs::Laws::past, crate::proofs::Laws::onward, crate::proofs::Laws::finished))]
 fn bodies_ok(book: &[u32], n: usize) -> bool
     requires { (n ≤ 1024) × (first_body n ≤ length book.now) }
     ensures { result ≡ bodies_ok book.now n 0 (first_body n) }
@@ -92,6 +94,7 @@ fn bodies_ok(book: &[u32], n: usize) -> bool
 }
 
 // Whether the book keeps the contents rules.
+#[tactic(auto, using(crate::specs::Book::Laws::header), unfolding(crate::specs::Book::contents_ok))]
 pub fn contents(book: &[u32]) -> bool
     ensures { result ≡ contents_ok book.now }
 {

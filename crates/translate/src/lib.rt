@@ -95,6 +95,7 @@ fn step(
 }
 
 // The entries in turn.
+#[tactic(auto, using(crate::specs::Outcome::Laws::going_none, crate::specs::Outcome::Laws::going_more, book::specs::Book::Laws::contents_header, book::specs::Book::Laws::bodies_count))]
 fn entries(book: Book<'_>, limit: u32, work: &mut [u8; AREA], text: &mut [u8]) -> Returned
     ensures { Ended (walk_of book.entry.words.now limit (length text.old)) text.old text.new result }
 {

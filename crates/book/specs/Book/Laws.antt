@@ -6,7 +6,6 @@ use mathlib.Core.List.{List, [], ◌∷◌, ◌++◌}
 use Rattle.std.proofs.lemmas.Bool.{false≢true}
 use Prim.Native.Nat.{ℕ, zero, suc, ◌+◌, ◌-◌, ◌≤◌, ◌<◌}
 use native.Mathlib.Omega.{arith}
-use Rattle.std.proofs.Math.Nat.{sub-zero}
 use Rattle.std.proofs.Math.ListN.{length, take}
 use Rattle.std.proofs.Math.Seq.{drop-drop, drop-length}
 use borrow.Author.Tests.{leb-true, eqb-true}
@@ -92,11 +91,6 @@ module _ (b : List ℕ) where
       ∙ ap (λ (l : List ℕ). take (first_body (count b)) b ++ l)
       (whole (count b) 0 (first_body (count b)) (right (header_ok b) (bodies_ok b (count b) 0 (first_body (count b))) e) (contents_header b e).room)
 
-  -- the part of the book from a start to an end that code cuts out
-  pub part_is : (i a k : ℕ) → a ≡ start_of b i → k ≡ size_of b i → take (a + k - a) (drop a b) ≡ body b i
-  unfolding body
-  part_is i a k p q = let z : a + k - a ≡ k = omega arith in rw (z, p, q)
-
   listed : (k j i : ℕ) → i < k → bodies_from b j k ≡ take i (bodies_from b j k) ++ (body b (j + i) ∷ drop (suc i) (bodies_from b j k))
   unfolding bodies_from
   listed zero j i h = absurd (omega arith)
@@ -107,20 +101,6 @@ module _ (b : List ℕ) where
   pub bodies_at : (i : ℕ) → i < count b → bodies b ≡ take i (bodies b) ++ (body b i ∷ drop (suc i) (bodies b))
   unfolding bodies
   bodies_at i h = let z : 0 + i ≡ i = omega arith in rw z at (listed (count b) 0 i h)
-
-  -- of the bodies from i on the first is body i; behind the last there is none
-  pub bodies_more : (i : ℕ) → i < count b → bodies_from b i (count b - i) ≡ body b i ∷ bodies_from b (i + 1) (count b - (i + 1))
-  unfolding bodies_from
-  bodies_more i h = let z : count b - i ≡ suc (count b - (i + 1)) = omega arith in let y : suc i ≡ i + 1 = omega arith in rw (z, y) refl
-
-  pub bodies_none : (i : ℕ) → count b ≤ i → bodies_from b i (count b - i) ≡ []
-  unfolding bodies_from
-  bodies_none i h = let z : count b - i ≡ 0 = omega arith in rw z refl
-
-  -- from body 0 on there are all
-  pub bodies_all : bodies_from b 0 (count b - 0) ≡ bodies b
-  unfolding bodies
-  bodies_all = rw sub-zero refl
 
   counted : (k i : ℕ) → length (bodies_from b i k) ≡ k
   unfolding bodies_from
