@@ -8,7 +8,8 @@ use Rattle.std.proofs.lemmas.Bool.Decides.{nat_tests}
 use Rattle.std.proofs.lemmas.List.{get_or-drop, get_or-take, drop-drop, drop-take, take-take, length-drop, length-take-le}
 use Rattle.text.specs.Tests.{one_less}
 use Rattle.entry.specs.Entry.{word}
-use Rattle.dwarf.specs.Dwarf.{wide, rule_at, rules_from, cfa_at, rule_count, next_row, row_at, rows_from, row_count, rows, registers, member, rules_fit, cfa_fits, row_fits, rows_fit, rules_of, distinct, head_fits, dwarf_layout}
+use Rattle.dwarf.specs.Dwarf.{wide, rule_at, rules_from, cfa_at, rule_count, next_row, row_at, rows_from, row_count, rows, registers, member}
+use Rattle.dwarf.specs.Dwarf.{rules_fit, cfa_fits, row_fits, rows_fit, rules_of, distinct, head_fits, dwarf_layout}
 use Rattle.dwarf.specs.Slices.{rule_in, rules_in, row_of, IsRow, fits_in, names_in, row_fits_in}
 use Rattle.dwarf.proofs.Chains.{rule_fits_is}
 

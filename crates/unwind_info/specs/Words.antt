@@ -22,7 +22,8 @@ use Rattle.unwind_info.specs.declared.Operation.{Operation}
 use Rattle.unwind_info.specs.declared.Operation.TheVariants.{Alloc, SaveRsp, SaveFp, PushMachineFrame, Undecodable}
 use Rattle.unwind_info.specs.declared.UnwindCode.{UnwindCode}
 use Rattle.unwind_info.specs.UnwindInfo.{byte, slot_at, long_at, slot_count, frame_register, frame_offset, part_size, code, slots_of, operation_of, save}
-use Rattle.unwind_info.specs.UnwindInfo.{alloc_large, push_machframe, codes, code_at, within, codes_in, codes_of, kind_of, register_of, value_of, words_of, op_words, info_words, parts_in, parts, infos_words, x64_body}
+use Rattle.unwind_info.specs.UnwindInfo.{alloc_large, push_machframe, codes, code_at, within, codes_in, codes_of, kind_of, register_of, value_of, words_of}
+use Rattle.unwind_info.specs.UnwindInfo.{op_words, info_words, parts_in, parts, infos_words, x64_body}
 use Rattle.unwind_info.specs.UnwindInfo.{first_refused, count_number, x64_number, decoded}
 use Rattle.unwind_info.specs.Index.{codes_few, ops_length, info_length, zero_both}
 

@@ -9,7 +9,9 @@ returns-in_default c = rw c.refused.ensures (called_1 c.args.book.now c.args.lim
 pub returns-then-limit-gt-MOST_LIMIT : goal.returns-then-limit-gt-MOST_LIMIT
 returns-then-limit-gt-MOST_LIMIT c =
     let a = c.args in
-    rw c.refused-then-limit-gt-MOST_LIMIT.ensures (called_2 a.book.now a.limit a.work.now a.text.now c.in-Some.ensures.cases.enough c.in-Some.work.now c.in-Some.ensures.cases.same c.if-limit-gt-MOST_LIMIT.true)
+    let w = c.in-Some.ensures.cases in
+    rw c.refused-then-limit-gt-MOST_LIMIT.ensures
+    (called_2 a.book.now a.limit a.work.now a.text.now w.enough c.in-Some.work.now w.same c.if-limit-gt-MOST_LIMIT.true)
 
 pub returns-in-Ok : goal.returns-in-Ok
 returns-in-Ok c =
@@ -22,4 +24,6 @@ returns-in-Ok c =
 pub returns-in-Err : goal.returns-in-Err
 returns-in-Err c =
     let a = c.args in
-    rw (c.refused-in-Err.ensures, c.in-Err.ensures.0) (called_3 a.book.now a.limit a.work.now a.text.now c.in-Some.ensures.cases.enough c.in-Some.work.now c.in-Some.ensures.cases.same c.if-limit-gt-MOST_LIMIT.false c.in-Err.ensures.1)
+    let w = c.in-Some.ensures.cases in
+    rw (c.refused-in-Err.ensures, c.in-Err.ensures.0)
+    (called_3 a.book.now a.limit a.work.now a.text.now w.enough c.in-Some.work.now w.same c.if-limit-gt-MOST_LIMIT.false c.in-Err.ensures.1)
