@@ -24,6 +24,19 @@ op_of k l r v =
     cond (eqb k 1) (AllocStack v) (cond (eqb k 2) (SaveReg l r v) (cond (eqb k 3) (SaveRegPreindexed l r v) (cond (eqb k 4) (SaveRegPair l r v)
     (cond (eqb k 5) (SaveRegPairPreindexed l r v) (cond (eqb k 6) (SaveLrPair r v) (cond (eqb k 7) SaveNext (cond (eqb k 9) End (cond (eqb k 10) Undecodable Other))))))))
 
+-- and back: kind, letter, register, value, 0 where it does not use them
+unfoldable pub words_of : Op → List ℕ
+words_of (AllocStack v) = 1 ∷ 0 ∷ 0 ∷ v ∷ []
+words_of (SaveReg l r v) = 2 ∷ l ∷ r ∷ v ∷ []
+words_of (SaveRegPreindexed l r v) = 3 ∷ l ∷ r ∷ v ∷ []
+words_of (SaveRegPair l r v) = 4 ∷ l ∷ r ∷ v ∷ []
+words_of (SaveRegPairPreindexed l r v) = 5 ∷ l ∷ r ∷ v ∷ []
+words_of (SaveLrPair r v) = 6 ∷ 0 ∷ r ∷ v ∷ []
+words_of SaveNext = 7 ∷ 0 ∷ 0 ∷ 0 ∷ []
+words_of Other = 8 ∷ 0 ∷ 0 ∷ 0 ∷ []
+words_of End = 9 ∷ 0 ∷ 0 ∷ 0 ∷ []
+words_of Undecodable = 10 ∷ 0 ∷ 0 ∷ 0 ∷ []
+
 -- those of n operations from word a on that stand before the first end, in stored order
 unfoldable pub counting : List ℕ → ℕ → ℕ → List Op
 counting ws a zero = []

@@ -12,12 +12,41 @@ use Rattle.lines.specs.Reach.{inside}
 use Rattle.refusal.specs.declared.Refusal.TheVariants.{Reach}
 use Rattle.entry.specs.declared.Fate.TheVariants.{Skip, Write}
 use Rattle.arm64.specs.declared.Op.{Op}
+use Rattle.arm64.specs.declared.Op.TheVariants.{AllocStack, SaveReg, SaveRegPreindexed, SaveRegPair, SaveRegPairPreindexed, SaveLrPair, SaveNext, Other, End, Undecodable}
 use Rattle.entry.specs.Entry.{word}
-use Rattle.arm64.specs.Arm64.{op_of, counting, op_count, ops, no_pair, in_reach, op_fits, ops_fit, arm_layout, undecodable, arm_skipped, arm_judged, run, arm_text}
+use Rattle.arm64.specs.Arm64.{op_of, words_of, counting, op_count, ops, no_pair, in_reach, op_fits, ops_fit, arm_layout, undecodable, arm_skipped, arm_judged, run, arm_text}
 
 -- the operation of four words
 unfoldable pub op_at : List ℕ → Op
 op_at w = op_of (word w 0) (word w 1) (word w 2) (word w 3)
+
+-- the words of an operation are read as it
+pub words_read : (o : Op) → op_at (words_of o) ≡ o
+unfolding op_at op_of words_of
+words_read (AllocStack v) = refl
+words_read (SaveReg l r v) = refl
+words_read (SaveRegPreindexed l r v) = refl
+words_read (SaveRegPair l r v) = refl
+words_read (SaveRegPairPreindexed l r v) = refl
+words_read (SaveLrPair r v) = refl
+words_read SaveNext = refl
+words_read Other = refl
+words_read End = refl
+words_read Undecodable = refl
+
+-- there are four
+pub words_length : (o : Op) → length (words_of o) ≡ 4
+unfolding words_of
+words_length (AllocStack v) = refl
+words_length (SaveReg l r v) = refl
+words_length (SaveRegPreindexed l r v) = refl
+words_length (SaveRegPair l r v) = refl
+words_length (SaveRegPairPreindexed l r v) = refl
+words_length (SaveLrPair r v) = refl
+words_length SaveNext = refl
+words_length Other = refl
+words_length End = refl
+words_length Undecodable = refl
 
 -- is it of this kind
 abbrev pub is_kind : ℕ → List ℕ → Bool

@@ -10,21 +10,14 @@ ghost use Rattle.arm64.specs.Arm64.{width, above, saved, pair_from, is_lr, write
 ghost use Rattle.arm64.specs.Encoder.{start_encoder, stepped, Steps, line_fits, Near, EachNear, EachNear-prop};
 ghost use Rattle.arm64.specs.Index.{is_kind, words_fit, ops_run, Holds, Admitted};
 
-use crate::body::{
-    ALLOC_STACK, Body, HEADER_WORDS, OP_WORDS, SAVE_LR_PAIR, SAVE_REG, UNDECODABLE, counted,
-};
+use crate::body::{Body, UNDECODABLE};
 use crate::{BreakpadEncoder, Op, Saved, Saves};
 use refusal::Refusal;
 
 // The letter x, and x30, the link register.
-const X: u32 = 0;
+pub(crate) const X: u32 = 0;
 
-const LR: u64 = 30;
-
-// The largest that a body may have (docs/BOOK.md).
-const MOST_OPS: u32 = 1024;
-
-const MOST_REGISTER: u32 = 255;
+pub(crate) const LR: u64 = 30;
 
 // A pair's second register too.
 const MOST_PAIRED: u64 = 255;
@@ -111,38 +104,13 @@ impl BreakpadEncoder {
         self
     }
 
-    fn alloc_stack(mut self, size: u32) -> BreakpadEncoder
-        requires { self.stack_size < 2 ^ 31 }
-        ensures { result ≡ record self { stack_size = self.stack_size + size; cfa_touched = true } }
+    // The CFA, where the stack has grown to this total.
+    fn touch_cfa(mut self, total: u64) -> BreakpadEncoder
+        ensures { result ≡ record self { stack_size = total; cfa_touched = true } }
     {
-        self.stack_size += size as u64;
+        self.stack_size = total;
         self.cfa_touched = true;
         self
-    }
-
-    // A register at [sp, #value].
-    fn get_indexed(self, letter: u32, register: u32, value: u32) -> Saved
-        ensures { result ≡ saved letter register value self.stack_size }
-    {
-        Saved {
-            letter,
-            register: register as u64,
-            a: value as u64,
-            b: self.stack_size,
-        }
-    }
-
-    // A register at [sp, #-value]!: the stack grows first, so it lies below where the stack pointer was.
-    fn get_pre_indexed(self, letter: u32, register: u32, value: u32) -> Saved
-        requires { self.stack_size < 2 ^ 31 }
-        ensures { result ≡ saved letter register 0 (self.stack_size + value) }
-    {
-        Saved {
-            letter,
-            register: register as u64,
-            a: 0,
-            b: self.stack_size + value as u64,
-        }
     }
 
     // One register; save-next still goes on from the last pair.
@@ -164,42 +132,18 @@ impl BreakpadEncoder {
     }
 
     // An x register and lr; save-next does not go on from these.
-    fn save_indexed_reg_and_lr(mut self, register: u32, value: u32) -> BreakpadEncoder
-        ensures { result ≡ record self { saves = Paired (saved 0 register value self.stack_size) (saved 0 30 (value + 8) self.stack_size) } }
+    fn save_reg_and_lr(mut self, first: Saved) -> BreakpadEncoder
+        requires { first.a < 2 ^ 34 }
+        ensures { result ≡ record self { saves = Paired first (saved 0 30 (first.a + 8) first.b) } }
     {
-        let first = self.get_indexed(X, register, value);
         let second = Saved {
+            letter: X,
             register: LR,
             a: first.a + WIDTH,
-            ..first
+            b: first.b,
         };
         self.saves = Saves::Paired(first, second);
         self
-    }
-
-    // One operation: the state after it, with what it writes.
-    #[tactic(auto, unfolding(crate::specs::Encoder::encoder, crate::specs::Encoder::stepped, crate::specs::Arm64::growth_of, crate::specs::Arm64::writes_cfa, crate::specs::Arm64::saves, crate::specs::Arm64::last_after))]
-    fn step(mut self, op: Op) -> BreakpadEncoder
-        requires total { self.stack_size < 2 ^ 31 }
-        requires last { Near self.last }
-        ensures { result ≡ stepped self op }
-    {
-        self = self.begin_instruction();
-        match op {
-            Op::AllocStack(v) => self.alloc_stack(v),
-            Op::SaveReg(l, r, v) => self.save_one(self.get_indexed(l, r, v)),
-            Op::SaveRegPreindexed(l, r, v) => {
-                self.save_one(self.get_pre_indexed(l, r, v)).alloc_stack(v)
-            }
-            Op::SaveRegPair(l, r, v) => self.save_pair(self.get_indexed(l, r, v)),
-            Op::SaveRegPairPreindexed(l, r, v) => {
-                self.save_pair(self.get_pre_indexed(l, r, v)).alloc_stack(v)
-            }
-            Op::SaveLrPair(r, v) => self.save_indexed_reg_and_lr(r, v),
-            Op::SaveNext => self.save_pair(self.last.above()),
-            Op::Other => self.alloc_stack(0),
-            Op::End | Op::Undecodable => self,
-        }
     }
 }
 
@@ -266,13 +210,67 @@ impl InReach {
         }
     }
 
+    // The total with so many bytes more.
+    fn grown(self, size: u32) -> u64
+        ensures { result ≡ self.state.stack_size + size }
+    {
+        self.state.stack_size + size as u64
+    }
+
+    // A register at [sp, #value].
+    fn get_indexed(self, letter: u32, register: u32, value: u32) -> Saved
+        ensures { result ≡ saved letter register value self.state.stack_size }
+    {
+        Saved {
+            letter,
+            register: register as u64,
+            a: value as u64,
+            b: self.state.stack_size,
+        }
+    }
+
+    // A register at [sp, #-value]!: the stack grows first, so it lies below where the stack pointer was.
+    fn get_pre_indexed(self, letter: u32, register: u32, value: u32) -> Saved
+        ensures { result ≡ saved letter register 0 (self.state.stack_size + value) }
+    {
+        Saved {
+            letter,
+            register: register as u64,
+            a: 0,
+            b: self.grown(value),
+        }
+    }
+
+    // The state after an operation, with what it writes.
+    #[tactic(auto, unfolding(crate::specs::Encoder::encoder, crate::specs::Encoder::stepped, crate::specs::Arm64::growth_of, crate::specs::Arm64::writes_cfa, crate::specs::Arm64::saves, crate::specs::Arm64::last_after))]
+    fn run(self, op: Op) -> BreakpadEncoder
+        ensures { result ≡ stepped self.state op }
+    {
+        let state = self.state.begin_instruction();
+        match op {
+            Op::AllocStack(v) => state.touch_cfa(self.grown(v)),
+            Op::SaveReg(l, r, v) => state.save_one(self.get_indexed(l, r, v)),
+            Op::SaveRegPreindexed(l, r, v) => state
+                .save_one(self.get_pre_indexed(l, r, v))
+                .touch_cfa(self.grown(v)),
+            Op::SaveRegPair(l, r, v) => state.save_pair(self.get_indexed(l, r, v)),
+            Op::SaveRegPairPreindexed(l, r, v) => state
+                .save_pair(self.get_pre_indexed(l, r, v))
+                .touch_cfa(self.grown(v)),
+            Op::SaveLrPair(r, v) => state.save_reg_and_lr(self.get_indexed(X, r, v)),
+            Op::SaveNext => state.save_pair(self.state.last.above()),
+            Op::Other => state.touch_cfa(self.grown(0)),
+            Op::End | Op::Undecodable => state,
+        }
+    }
+
     // One operation, whose line is at `address`; none where a number of it is out of reach.
     // Inlined: as a call it takes 121.6 instructions a word of real books, and 99.2 so.
     #[inline(always)]
     pub(crate) fn step(self, op: Op, address: u64) -> Option<InReach>
         ensures { MatchOption result (fits address self.state.stack_size self.state.last op ≡ false) (λ e. Steps address self.state op e.state) }
     {
-        let state = self.state.step(op);
+        let state = self.run(op);
         if !fits_line(address, op.value(), state) {
             return None;
         }
@@ -294,45 +292,6 @@ fn reach(body: &Body) -> bool
     true
 }
 
-// ---- refusal 4
-
-#[tactic(auto, unfolding(crate::specs::Arm64::op_fits))]
-fn op_fits(kind: u32, register: u32) -> bool
-    ensures { result ≡ op_fits kind register }
-{
-    match kind {
-        SAVE_REG..=SAVE_LR_PAIR => register <= MOST_REGISTER,
-        ALLOC_STACK..=UNDECODABLE => true,
-        _ => false,
-    }
-}
-
-fn ops_fit(ops: &[[u32; OP_WORDS]]) -> bool
-    ensures { result ≡ list_all words_fit ops.now }
-{
-    ops.iter()
-        .all(|&[kind, _, register, _]| op_fits(kind, register))
-}
-
-// The body, where refusal 4 does not apply: ranges, and exactly the words that the counts demand.
-fn layout(words: &[u32]) -> Option<Body<'_>>
-    ensures { MatchOption result (arm_layout words.now ≡ false) (λ b. Holds words.now b.address b.size b.ops.now) }
-{
-    let ([address, size, count], rest) = words.split_first_chunk::<HEADER_WORDS>()?;
-    if MOST_OPS < *count || rest.len() != OP_WORDS * *count as usize {
-        return None;
-    }
-    let (ops, _) = rest.as_chunks::<OP_WORDS>();
-    if !ops_fit(ops) {
-        return None;
-    }
-    Some(Body {
-        address: *address,
-        size: *size,
-        ops: counted(ops),
-    })
-}
-
 // ---- entries that are skipped
 
 // An undecodable one among the operations that count.
@@ -348,7 +307,7 @@ fn is_undecodable(body: &Body) -> bool
 pub(crate) fn judge(words: &[u32]) -> Result<Option<Body<'_>>, Refusal>
     ensures { MatchResult result (λ o. MatchOption o (arm_judged words.now ≡ Ok Skip) (λ b. Admitted words.now b.address b.size b.ops.now)) (λ r. arm_judged words.now ≡ Err r) }
 {
-    let body = layout(words).ok_or(Refusal::Layout)?;
+    let body = Body::read(words).ok_or(Refusal::Layout)?;
     if is_undecodable(&body) {
         return Ok(None);
     }

@@ -19,7 +19,8 @@ use judge::judge;
 use refusal::Refusal;
 use write::put_lines;
 
-// An unwind operation with the words that it uses: letter, register and value where it saves. They stand side by side, as the definitions have them.
+// An unwind operation with the words that it uses: letter, register and value where it saves. They stand side by side, as the definitions have them:
+// a struct for the three would be taken apart again in each arm but one, since a pair by name and lr has no letter.
 #[derive(Clone, Copy)]
 pub enum Op {
     AllocStack(u32),
@@ -57,7 +58,8 @@ pub enum Saves {
     Paired(Saved, Saved),
 }
 
-// The state between operations: T, and the second register of the last pair; and what the operation just run writes.
+// The state between operations: T, and the second register of the last pair; and what the operation just run writes: the CFA or not, and what it
+// saves. The CFA's rule has T itself, which an option in place of the flag would hold twice.
 #[derive(Clone, Copy)]
 pub struct BreakpadEncoder {
     pub stack_size: u64,

@@ -9,17 +9,12 @@ ghost use Rattle.arm64.specs.Encoder.{step_text, Near, EachNear};
 ghost use Rattle.arm64.specs.Index.{ops_run};
 
 use crate::body::Body;
-use crate::judge::InReach;
+use crate::judge::{InReach, LR, X};
 use crate::{Op, Saved, Saves};
 use lines::{put_init, put_later};
 use names::{Name, arm64_register_name};
 use rules::{Form, Reg, Rule, cfa_name, difference, put_rule, ra_name};
 use text::put_byte;
-
-// x30, where a function's return address is at its start: the letter, and the link register.
-const X: u32 = 0;
-
-const LINK: u32 = 30;
 
 // ---- the rules of an operation
 
@@ -65,15 +60,14 @@ fn put_saves(out: &mut [u8], at: usize, saves: Saves) -> usize
     }
 }
 
-fn put_cfa(out: &mut [u8], at: usize, touched: bool, total: u64) -> usize
-    requires { total < 2 ^ 63 }
-    ensures { Put out.old at (given touched (cfa_text total)) out.new result }
+// The CFA, where the operation just run touched it.
+fn put_cfa(out: &mut [u8], at: usize, e: InReach) -> usize
+    ensures { Put out.old at (given e.state.cfa_touched (cfa_text e.state.stack_size)) out.new result }
 {
-    if touched {
-        let x = difference(total, 0);
-        let reg = Reg::Sp;
+    if e.state.cfa_touched {
+        let x = difference(e.state.stack_size, 0);
         let name = cfa_name();
-        let form = Form::RegisterPlus(reg, x);
+        let form = Form::RegisterPlus(Reg::Sp, x);
         return put_rule(out, at, Rule { name, form });
     }
     at
@@ -83,21 +77,32 @@ fn put_cfa(out: &mut [u8], at: usize, touched: bool, total: u64) -> usize
 fn put_rules(out: &mut [u8], at: usize, e: InReach) -> usize
     ensures { Put out.old at (step_text e.state) out.new result }
 {
-    let p = put_cfa(out, at, e.state.cfa_touched, e.state.stack_size);
+    let p = put_cfa(out, at, e);
     put_saves(out, p, e.state.saves)
 }
 
 // ---- the lines
 
-// What is taken for granted of a register where its rule is not written.
-fn put_default(out: &mut [u8], at: usize, written: bool, name: Name, reg: Reg) -> usize
-    ensures { Put out.old at (given (not written) (rule_text (rule (name_text name) (register (reg_name reg))))) out.new result }
+// What is taken for granted of a register whose rule is not written.
+#[tactic(auto, unfolding(rules::specs::Rules::rule_of, rules::specs::Rules::form_of))]
+fn put_default(out: &mut [u8], at: usize, name: Name, reg: Reg) -> usize
+    ensures { Put out.old at (rule_text (rule (name_text name) (register (reg_name reg)))) out.new result }
 {
-    if written {
-        return at;
-    }
     let form = Form::Register(reg);
     put_rule(out, at, Rule { name, form })
+}
+
+fn put_defaults(out: &mut [u8], at: usize, e: InReach) -> usize
+    ensures { Put out.old at (defaults_text e.state.cfa_touched (writes_ra e.state.saves)) out.new result }
+{
+    let mut p = at;
+    if !e.state.cfa_touched {
+        p = put_default(out, p, cfa_name(), Reg::Sp);
+    }
+    if !e.state.saves.writes_ra() {
+        p = put_default(out, p, ra_name(), Reg::Arm64(X, LR as u32));
+    }
+    p
 }
 
 // The function's first line, with what is taken for granted where it is not written.
@@ -106,9 +111,7 @@ fn put_first_line(out: &mut [u8], at: usize, body: &Body, e: InReach) -> usize
 {
     let p = put_init(out, at, body.address as u64, body.size as u64);
     let p = put_rules(out, p, e);
-    let p = put_default(out, p, e.state.cfa_touched, cfa_name(), Reg::Sp);
-    let reg = Reg::Arm64(X, LINK);
-    let p = put_default(out, p, e.state.saves.writes_ra(), ra_name(), reg);
+    let p = put_defaults(out, p, e);
     put_byte(out, p, b'\n')
 }
 

@@ -1,10 +1,10 @@
--- `layout`: by the laws of the layout.
+-- `read`: by the laws of the layout.
 use Rattle.std.proofs.Common.{◌≡◌, arith, ◌∙◌}
 use Rattle.entry.specs.Entry.{word}
 use Rattle.arm64.specs.Arm64.{op_count}
 use Rattle.arm64.specs.Index.{in_front, in_fours, too_many, other_length, unfit, holds}
-use Rattle.arm64.proofs.judge.layout.Goals as goal
-use Rattle.arm64.proofs.judge.layout.Goals.{then-count-gt-MOST_OPS-via-then-count-gt-MOST_OPS, then-count-gt-MOST_OPS-via-else-count-gt-MOST_OPS+then-rest-count}
+use Rattle.arm64.proofs.body.Body.read.Goals as goal
+use Rattle.arm64.proofs.body.Body.read.Goals.{then-count-gt-MOST_OPS-via-then-count-gt-MOST_OPS, then-count-gt-MOST_OPS-via-else-count-gt-MOST_OPS+then-rest-count}
 
 pub returns-in_err-address : goal.returns-in_err-address
 returns-in_err-address c = rw c.from_residual.ensures (other_length c.args.words.now (λ e. omega (arith, e, c.in_err-address.ensures.cases)))
