@@ -1,7 +1,7 @@
 -- The two loops over the list: counted, and put. What holds at their heads, with its start, turn and end.
-use Rattle.std.proofs.Common.{◌≡◌, refl, sym, ap, ◌∙◌, subst, arith, Bool, true, false, cond, ◌&&◌, List, [], ◌∷◌, ◌++◌, ℕ, ◌+◌, ◌-◌, ◌*◌, ◌≤◌, ◌<◌, T, Ok, Err, length, drop, length-drop, leb→le}
+use Rattle.std.proofs.Common.{◌≡◌, refl, sym, ap, ◌∙◌, subst, arith, Bool, true, false, cond, ◌&&◌, List, [], ◌∷◌, ◌++◌, ℕ, ◌+◌, ◌-◌, ◌*◌, ◌≤◌, ◌<◌, T, Ok, Err, length, drop, length-append, length-drop, leb→le}
 use Rattle.std.proofs.lemmas.List.{nil_from_length}
-use borrow.Author.Tests.{ne_eqb, le-leb, lt-leb}
+use borrow.Author.Tests.{ne_eqb}
 use Rattle.text.specs.Text.{MAX, Put}
 use Rattle.text.specs.Text.Laws.{put_as}
 use Rattle.text.specs.Tests.{and_l, and_r, all}
@@ -11,11 +11,15 @@ use Rattle.refusal.specs.Refusal.{number}
 use Rattle.refusal.specs.Refusal.Laws.{numbered}
 use Rattle.fill.specs.Fill.{Fills}
 use Rattle.fill.specs.Fill.Laws.{fills_refused, fills_put, fills_short, Fitting, fitting_all, fitting_room, fitting_put, fitting_none}
-use Rattle.unwind_codes.specs.declared.Operation.{Operation}
-use Rattle.unwind_codes.specs.UnwindCodes.{size_at, operation_at, whole, ends, list, op_words, arm_body, arm_number, decoded}
-use Rattle.unwind_codes.specs.Index.{list_first, list_none, ops_length}
+use Rattle.arm64.specs.declared.Op.{Op}
+use Rattle.arm64.specs.Arm64.{words_of}
+use Rattle.unwind_codes.specs.UnwindCodes.{byte, size_at, operation_at, whole, ends, list, op_words, arm_body, arm_number, decoded}
+use Rattle.unwind_codes.specs.Index.{size_some, list_first, list_none, ops_length}
 
 -- ---- counted
+
+pub shorter : (bs : List ℕ) → 0 < length bs → length (drop (size_at bs) bs) < length bs
+shorter bs h = omega (arith, length-drop (size_at bs) bs, size_some (byte bs 0))
 
 -- count codes were met, and rest is left
 pub record Checking (bs rest : List ℕ) (count : ℕ) : Type 0 where
@@ -40,31 +44,30 @@ module _ {bs rest : List ℕ} {count : ℕ} (g : Checking bs rest count) (h : 0 
   first_whole = ap (all whole) (list_first rest h)
 
   -- the first code is not all there: 12
-  pub check_cut : length rest < size_at rest → arm_number bs ≡ 12
+  pub check_cut : whole rest ≡ false → arm_number bs ≡ 12
   unfolding arm_number
-  check_cut l =
-      let w : whole rest ≡ false = lt-leb (size_at rest) (length rest) l in
+  check_cut w =
       let f : all whole (list bs) ≡ false = sym g.wholes ∙ first_whole ∙ ap (λ (t : Bool). t && all whole (behind rest)) w in
       rw f
 
   -- it is all there
-  rest_whole : size_at rest ≤ length rest → all whole (list rest) ≡ all whole (behind rest)
-  rest_whole l = first_whole ∙ ap (λ (t : Bool). t && all whole (behind rest)) (le-leb (size_at rest) (length rest) l)
+  rest_whole : whole rest ≡ true → all whole (list rest) ≡ all whole (behind rest)
+  rest_whole w = first_whole ∙ ap (λ (t : Bool). t && all whole (behind rest)) w
 
   -- and ends the list
-  pub check_ends : size_at rest ≤ length rest → true ≡ ends (operation_at rest) → Listed bs (count + 1)
+  pub check_ends : whole rest ≡ true → true ≡ ends (operation_at rest) → Listed bs (count + 1)
   check_ends l e =
       let z : behind rest ≡ [] = ap (λ (t : Bool). cond t [] (list (drop (size_at rest) rest))) (sym e) in
       record { wholes = sym g.wholes ∙ rest_whole l ∙ ap (all whole) z; size = omega (arith, g.sum, ap length (list_first rest h), ap length z) }
 
   -- and the list goes on
-  pub check_more : size_at rest ≤ length rest → 1 ≤ size_at rest → false ≡ ends (operation_at rest) → Checking bs (drop (size_at rest) rest) (count + 1)
-  check_more l k e =
+  pub check_more : whole rest ≡ true → false ≡ ends (operation_at rest) → Checking bs (drop (size_at rest) rest) (count + 1)
+  check_more l e =
       let z : behind rest ≡ list (drop (size_at rest) rest) = ap (λ (t : Bool). cond t [] (list (drop (size_at rest) rest))) (sym e) in
       record {
         wholes = sym (ap (all whole) z) ∙ sym (rest_whole l) ∙ g.wholes;
         sum = omega (arith, g.sum, ap length (list_first rest h), ap length z);
-        small = omega (arith, g.small, length-drop (size_at rest) rest);
+        small = omega (arith, g.small, shorter rest h);
       }
 
 -- the bytes' end
@@ -103,10 +106,10 @@ module _ {rest words : List ℕ} {left : ℕ} (l : OpsLeft rest left words) (h :
       leb→le (size_at rest) (length rest)
       (and_l (whole rest) (all whole (behind rest)) (subst (λ (cs : List (List ℕ)). T (all whole cs)) codes_are l.wholes))
 
-  pub words_first : {o : Operation} → o ≡ operation_at rest → words ≡ (o.kind ∷ o.letter ∷ o.register ∷ o.value ∷ []) ++ op_words (behind rest)
+  pub words_first : {o : Op} → o ≡ operation_at rest → words ≡ words_of o ++ op_words (behind rest)
   unfolding op_words
   words_first e =
-      l.words_are ∙ ap op_words codes_are ∙ ap (λ (r : Operation). r.kind ∷ r.letter ∷ r.register ∷ r.value ∷ op_words (behind rest)) (sym e)
+      l.words_are ∙ ap op_words codes_are ∙ ap (λ (r : Op). words_of r ++ op_words (behind rest)) (sym e)
 
   pub ops_turn : OpsLeft (drop (size_at rest) rest) (left - 1) (op_words (behind rest))
   ops_turn = record {
@@ -135,11 +138,11 @@ pub put_all : {bs d : List ℕ} {at n : ℕ} → n ≡ length (list bs) → T (a
     → Putting d at (op_words (list bs)) d at bs n
 put_all {bs} e w r m = record { words = op_words (list bs); codes = ops_all e w; text = fitting_all (omega (arith, r, e, ops_length (list bs))) m }
 
-module _ {d t d₁ rest : List ℕ} {at p left : ℕ} (l : Putting d at t d₁ p rest left) (h : 0 < left) {o : Operation} (e : o ≡ operation_at rest) where
-  pub op_room : p + 4 ≤ length d₁
-  op_room = omega (arith, fitting_room l.text, ap length (words_first l.codes h e))
+module _ {d t d₁ rest : List ℕ} {at p left : ℕ} (l : Putting d at t d₁ p rest left) (h : 0 < left) {o : Op} (e : o ≡ operation_at rest) where
+  pub op_room : p + length (words_of o) ≤ length d₁
+  op_room = omega (arith, fitting_room l.text, ap length (words_first l.codes h e), length-append (words_of o) (op_words (behind rest)))
 
-  pub put_turn : {d₂ : List ℕ} {q : ℕ} → Put d₁ p (o.kind ∷ o.letter ∷ o.register ∷ o.value ∷ []) d₂ q → Putting d at t d₂ q (drop (size_at rest) rest) (left - 1)
+  pub put_turn : {d₂ : List ℕ} {q : ℕ} → Put d₁ p (words_of o) d₂ q → Putting d at t d₂ q (drop (size_at rest) rest) (left - 1)
   put_turn x = record { words = op_words (behind rest); codes = ops_turn l.codes h; text = fitting_put l.text (words_first l.codes h e) x }
 
 pub put_done : {d t d₁ rest : List ℕ} {at p left : ℕ} → Putting d at t d₁ p rest left → left ≡ 0 → Put d at t d₁ p

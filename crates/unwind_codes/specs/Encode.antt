@@ -1,13 +1,13 @@
 -- An ARM64 body back to unwind codes: `decoded` held to its own reading, decode (encode b) ≡ b. A body can be encoded where its kinds end the list at
 -- its end alone, words that are not used are 0, and sizes, places and registers are such that a code has them.
-use Rattle.std.specs.Prelude.{◌≡◌, refl, Bool, true, false, not, cond, ◌&&◌, ◌||◌, List, [], ◌∷◌, ◌++◌, ℕ, zero, suc, ◌+◌, ◌-◌, ◌*◌, ◌/◌, ◌%◌, ◌^◌, ◌≤◌, ◌<◌, T, length, drop, eqb, ltb, leb}
+use Rattle.std.specs.Prelude.{◌≡◌, refl, Bool, true, false, not, cond, ◌&&◌, ◌||◌, List, [], ◌∷◌, ◌++◌, ℕ, zero, suc, ◌+◌, ◌-◌, ◌*◌, ◌/◌, ◌%◌, ◌^◌, ◌≤◌, ◌<◌, T, length, get_or, drop, eqb, ltb, leb}
 use Rattle.std.proofs.Common.{sym, ap, ◌∙◌, arith, subst, length-append, drop-cons, eqb→eq, ltb→lt, leb→le, le-leb, le-ltb, ne_eqb}
 use borrow.Author.Tests.{lt-leb}
 use Rattle.std.proofs.Math.Seq.{drop-append_seam}
 use Rattle.text.specs.Tests.{is_true, and_l, and_r, all, eqw}
 use Rattle.entry.specs.Entry.{word}
-use Rattle.unwind_codes.specs.declared.Operation.{Operation}
-use Rattle.unwind_codes.specs.UnwindCodes.{op, any_reg, any_reg_offset, codes, bits_fit, find, code_of, meant, number, size_at, operation_at, whole, ends, list}
+use Rattle.arm64.specs.Arm64.{words_of}
+use Rattle.unwind_codes.specs.UnwindCodes.{any_reg, any_reg_offset, any_save, codes, bits_fit, find, code_of, meant, number, size_at, operation_at, whole, ends, ends_kind, list}
 use Rattle.unwind_codes.specs.UnwindCodes.{op_words, arm_body, arm_number, decoded}
 use Rattle.unwind_codes.specs.Index.{alloc_s, save_r19r20_x, save_fplr, save_fplr_x, alloc_m, save_regp, save_regp_x, save_reg, save_reg_x, save_lrpair, save_fregp, save_fregp_x}
 use Rattle.unwind_codes.specs.Index.{save_freg, save_freg_x}
@@ -108,59 +108,63 @@ op_encodes k l r v =
 
 -- ---- one operation
 
--- bytes that are read as an operation, whatever follows
+-- the words of an operation
+abbrev as_words : ℕ → ℕ → ℕ → ℕ → List ℕ
+as_words k l r v = k ∷ l ∷ r ∷ v ∷ []
+
+-- bytes that are read as an operation of these, whatever follows
 record Encoded (k l r v : ℕ) (bytes : List ℕ) : Type 0 where
   pub some : 1 ≤ length bytes
   pub size : (rest : List ℕ) → size_at (bytes ++ rest) ≡ length bytes
-  pub is : (rest : List ℕ) → operation_at (bytes ++ rest) ≡ op k l r v
+  pub is : (rest : List ℕ) → words_of (operation_at (bytes ++ rest)) ≡ as_words k l r v
 
 -- by their size, and the number that they make
 by : {k l r v : ℕ} (b : ℕ) (bs : List ℕ) {n : ℕ} → length (b ∷ bs) ≡ (code_of b).size → ((rest : List ℕ) → number (length (b ∷ bs)) (b ∷ bs ++ rest) ≡ n)
-    → op k l r v ≡ meant (code_of b) n → Encoded k l r v (b ∷ bs)
+    → as_words k l r v ≡ words_of (meant (code_of b) n) → Encoded k l r v (b ∷ bs)
 unfolding operation_at
 by b bs e m o = record {
   some = omega arith;
   size = λ rest. sym e;
-  is = λ rest. ap (λ (j : ℕ). meant (code_of b) (number j (b ∷ bs ++ rest))) (sym e) ∙ ap (λ (j : ℕ). meant (code_of b) j) (m rest) ∙ sym o;
+  is = λ rest. ap (λ (j : ℕ). words_of (meant (code_of b) (number j (b ∷ bs ++ rest)))) (sym e) ∙ ap (λ (j : ℕ). words_of (meant (code_of b) j)) (m rest) ∙ sym o;
 }
 
 module _ {k l r v : ℕ} (b : ℕ) where
-  by_1 : 1 ≡ (code_of b).size → op k l r v ≡ meant (code_of b) b → Encoded k l r v (b ∷ [])
+  by_1 : 1 ≡ (code_of b).size → as_words k l r v ≡ words_of (meant (code_of b) b) → Encoded k l r v (b ∷ [])
   unfolding number
   by_1 e o = by b [] e (λ rest. omega arith) o
 
-  by_2 : (c : ℕ) → 2 ≡ (code_of b).size → op k l r v ≡ meant (code_of b) (256 * b + c) → Encoded k l r v (b ∷ c ∷ [])
+  by_2 : (c : ℕ) → 2 ≡ (code_of b).size → as_words k l r v ≡ words_of (meant (code_of b) (256 * b + c)) → Encoded k l r v (b ∷ c ∷ [])
   unfolding number
   by_2 c e o = by b (c ∷ []) e (λ rest. omega arith) o
 
-  by_3 : (c d : ℕ) → 3 ≡ (code_of b).size → op k l r v ≡ meant (code_of b) (65536 * b + 256 * c + d) → Encoded k l r v (b ∷ c ∷ d ∷ [])
+  by_3 : (c d : ℕ) → 3 ≡ (code_of b).size → as_words k l r v ≡ words_of (meant (code_of b) (65536 * b + 256 * c + d)) → Encoded k l r v (b ∷ c ∷ d ∷ [])
   unfolding number
   by_3 c d e o = by b (c ∷ d ∷ []) e (λ rest. omega arith) o
 
-  by_4 : (c d f : ℕ) → 4 ≡ (code_of b).size → op k l r v ≡ meant (code_of b) (16777216 * b + 65536 * c + 256 * d + f) → Encoded k l r v (b ∷ c ∷ d ∷ f ∷ [])
+  by_4 : (c d f : ℕ) → 4 ≡ (code_of b).size → as_words k l r v ≡ words_of (meant (code_of b) (16777216 * b + 65536 * c + 256 * d + f)) → Encoded k l r v (b ∷ c ∷ d ∷ f ∷ [])
   unfolding number
   by_4 c d f e o = by b (c ∷ d ∷ f ∷ []) e (λ rest. omega arith) o
 
--- the same operation by other numbers
-op_as : (k l : ℕ) {r s v w : ℕ} → r ≡ s → v ≡ w → op k l r v ≡ op k l s w
+-- the same words by other numbers
+op_as : (k l : ℕ) {r s v w : ℕ} → r ≡ s → v ≡ w → as_words k l r v ≡ as_words k l s w
 op_as k l e f = rw (e, f)
 
 alloc_encoded : (v : ℕ) → v % 16 ≡ 0 → v < 2 ^ 28 → Encoded 1 0 0 v (alloc_bytes (v / 16))
-unfolding alloc_bytes
+unfolding alloc_bytes words_of
 alloc_encoded v m h = go (ltb (v / 16) 32) (ltb (v / 16) 2048) refl refl
   where
     go : (s t : Bool) → ltb (v / 16) 32 ≡ s → ltb (v / 16) 2048 ≡ t
         → Encoded 1 0 0 v (cond s (v / 16 ∷ []) (cond t ((192 + v / 16 / 256) ∷ v / 16 % 256 ∷ []) (224 ∷ v / 16 / 65536 ∷ v / 16 / 256 % 256 ∷ v / 16 % 256 ∷ [])))
     go true t p q =
         let s : v / 16 < 32 = ltb→lt (v / 16) 32 (rw p tt) in
-        by_1 (v / 16) (one (v / 16) (omega arith)) (op_as 1 0 refl (omega arith) ∙ alloc_s (v / 16) (v / 16) s)
+        by_1 (v / 16) (one (v / 16) (omega arith)) (op_as 1 0 refl (omega arith) ∙ ap words_of (alloc_s (v / 16) (v / 16) s))
     go false true p q =
         let s : v / 16 < 2048 = ltb→lt (v / 16) 2048 (rw q tt) in
         let b = 192 + v / 16 / 256 in
-        by_2 b (v / 16 % 256) (two b (omega arith) (omega arith)) (op_as 1 0 refl (omega arith) ∙ alloc_m b (256 * b + v / 16 % 256) (omega arith) (omega arith))
+        by_2 b (v / 16 % 256) (two b (omega arith) (omega arith)) (op_as 1 0 refl (omega arith) ∙ ap words_of (alloc_m b (256 * b + v / 16 % 256) (omega arith) (omega arith)))
     go false false p q =
         by_4 224 (v / 16 / 65536) (v / 16 / 256 % 256) (v / 16 % 256) (four 224 refl)
-        (op_as 1 0 refl (omega arith) ∙ alloc_l 224 (16777216 * 224 + 65536 * (v / 16 / 65536) + 256 * (v / 16 / 256 % 256) + v / 16 % 256) refl)
+        (op_as 1 0 refl (omega arith) ∙ ap words_of (alloc_l 224 (16777216 * 224 + 65536 * (v / 16 / 65536) + 256 * (v / 16 / 256 % 256) + v / 16 % 256) refl))
 
 -- ---- saves
 
@@ -195,7 +199,7 @@ between a b m l r h =
 
 -- save_any_reg, whatever its fields are
 any_read : (p x l r o : ℕ) → p ≤ 1 → x ≤ 1 → l ≤ 2 → r ≤ 31 → o < 64
-    → any_reg (p * 64 + x * 32 + r) (l * 64 + o) ≡ op (2 + 2 * p + x) l r (any_reg_offset p x l o)
+    → any_reg (p * 64 + x * 32 + r) (l * 64 + o) ≡ any_save (eqb p 1) (eqb x 1) l r (any_reg_offset (eqb p 1) (eqb x 1) l o)
 unfolding any_reg
 any_read p x l r o hp hx hl hr ho =
     let s = p * 64 + x * 32 + r in
@@ -207,18 +211,20 @@ any_read p x l r o hp hx hl hr ho =
     let e : t % 64 ≡ o = omega arith in
     rw (lt-leb 128 s (omega arith), a, b, c, d, e, ne_eqb l 3 (omega arith))
 
-any_encoded : (p x l r o v : ℕ) → p ≤ 1 → x ≤ 1 → l ≤ 2 → r ≤ 31 → o < 64 → v ≡ any_reg_offset p x l o → Encoded (2 + 2 * p + x) l r v (any_bytes p x l r o)
-any_encoded p x l r o v hp hx hl hr ho e =
+any_encoded : {k : ℕ} (p x l r o v : ℕ) → p ≤ 1 → x ≤ 1 → l ≤ 2 → r ≤ 31 → o < 64 → v ≡ any_reg_offset (eqb p 1) (eqb x 1) l o
+    → ((w : ℕ) → as_words k l r w ≡ words_of (any_save (eqb p 1) (eqb x 1) l r w)) → Encoded k l r v (any_bytes p x l r o)
+any_encoded {k} p x l r o v hp hx hl hr ho e is =
     let s = p * 64 + x * 32 + r in
     let t = l * 64 + o in
     let n = 65536 * 231 + 256 * s + t in
     let a : n / 256 % 256 ≡ s = omega arith in
     let b : n % 256 ≡ t = omega arith in
-    by_3 231 s t (three 231 refl)
-    (op_as (2 + 2 * p + x) l refl e ∙ sym (any_read p x l r o hp hx hl hr ho) ∙ sym (ap (λ (j : ℕ). any_reg j (n % 256)) a ∙ ap (λ (j : ℕ). any_reg s j) b) ∙ any_reg_lem 231 n refl)
+    let read = sym (any_read p x l r o hp hx hl hr ho) ∙ sym (ap (λ (j : ℕ). any_reg j (n % 256)) a ∙ ap (λ (j : ℕ). any_reg s j) b) ∙ any_reg_lem 231 n refl in
+    by_3 231 s t (three 231 refl) (op_as k l refl e ∙ is (any_reg_offset (eqb p 1) (eqb x 1) l o) ∙ ap words_of read)
 
 -- by the unit that they have
 any_placed : (l r v : ℕ) → T (any_has 0 0 l r v) → Encoded 2 l r v (any_bytes 0 0 l r (v / unit 0 0 l))
+unfolding words_of
 any_placed l r v h = go (eqb l 2) refl h
   where
     go : (q : Bool) → eqb l 2 ≡ q
@@ -231,7 +237,7 @@ any_placed l r v h = go (eqb l 2) refl h
         let h₂ = and_r (leb r 31) _ h₁ in
         let c : v % 16 ≡ 0 = eqb→eq (v % 16) 0 (and_l (eqb (v % 16) 0) _ h₂) in
         let d : v < 64 * 16 = ltb→lt v (64 * 16) (and_r (leb 0 v) _ (and_r (eqb (v % 16) 0) _ h₂)) in
-        any_encoded 0 0 l r (v / 16) v (omega arith) (omega arith) a b (omega arith) (rw e (omega arith))
+        any_encoded 0 0 l r (v / 16) v (omega arith) (omega arith) a b (omega arith) (rw e (omega arith)) (λ w. refl)
     go false e h =
         let a : l ≤ 2 = leb→le l 2 (and_l (leb l 2) _ h) in
         let h₁ = and_r (leb l 2) _ h in
@@ -239,7 +245,7 @@ any_placed l r v h = go (eqb l 2) refl h
         let h₂ = and_r (leb r 31) _ h₁ in
         let c : v % 8 ≡ 0 = eqb→eq (v % 8) 0 (and_l (eqb (v % 8) 0) _ h₂) in
         let d : v < 64 * 8 = ltb→lt v (64 * 8) (and_r (leb 0 v) _ (and_r (eqb (v % 8) 0) _ h₂)) in
-        any_encoded 0 0 l r (v / 8) v (omega arith) (omega arith) a b (omega arith) (rw e (omega arith))
+        any_encoded 0 0 l r (v / 8) v (omega arith) (omega arith) a b (omega arith) (rw e (omega arith)) (λ w. refl)
 
 -- a pair, or pre-indexed: in units of 16
 record Any (x l r v : ℕ) : Type 0 where
@@ -261,67 +267,76 @@ any_has_lem x l r v h = record {
 -- ---- each code of two bytes
 
 save_reg_encoded : (r v : ℕ) → 19 ≤ r → r ≤ 34 → Near v → Encoded 2 0 r v (six 208 (r - 19) (v / 8))
+unfolding words_of
 save_reg_encoded r v p q n =
     let b = 208 + (r - 19) / 4 in
     let c = (r - 19) % 4 * 64 + v / 8 in
     by_2 b c (two b (omega arith) (omega arith))
-    (op_as 2 0 (omega (arith, n.units, n.fits)) (omega (arith, n.units, n.fits)) ∙ save_reg b (256 * b + c) (omega arith) (omega arith))
+    (op_as 2 0 (omega (arith, n.units, n.fits)) (omega (arith, n.units, n.fits)) ∙ ap words_of (save_reg b (256 * b + c) (omega arith) (omega arith)))
 
 save_freg_encoded : (r v : ℕ) → 8 ≤ r → r ≤ 15 → Near v → Encoded 2 1 r v (six 220 (r - 8) (v / 8))
+unfolding words_of
 save_freg_encoded r v p q n =
     let b = 220 + (r - 8) / 4 in
     let c = (r - 8) % 4 * 64 + v / 8 in
     by_2 b c (two b (omega arith) (omega arith))
-    (op_as 2 1 (omega (arith, n.units, n.fits)) (omega (arith, n.units, n.fits)) ∙ save_freg b (256 * b + c) (omega arith) (omega arith))
+    (op_as 2 1 (omega (arith, n.units, n.fits)) (omega (arith, n.units, n.fits)) ∙ ap words_of (save_freg b (256 * b + c) (omega arith) (omega arith)))
 
 save_reg_x_encoded : (r v : ℕ) → 19 ≤ r → r ≤ 34 → NearPre 256 v → Encoded 3 0 r v (five 212 (r - 19) (v / 8 - 1))
+unfolding words_of
 save_reg_x_encoded r v p q n =
     let b = 212 + (r - 19) / 8 in
     let c = (r - 19) % 8 * 32 + (v / 8 - 1) in
     by_2 b c (two b (omega arith) (omega arith))
-    (op_as 3 0 (omega (arith, n.units, n.some, n.fits)) (omega (arith, n.units, n.some, n.fits)) ∙ save_reg_x b (256 * b + c) (omega arith) (omega arith))
+    (op_as 3 0 (omega (arith, n.units, n.some, n.fits)) (omega (arith, n.units, n.some, n.fits)) ∙ ap words_of (save_reg_x b (256 * b + c) (omega arith) (omega arith)))
 
 save_freg_x_encoded : (r v : ℕ) → 8 ≤ r → r ≤ 15 → NearPre 256 v → Encoded 3 1 r v (five 222 (r - 8) (v / 8 - 1))
+unfolding words_of
 save_freg_x_encoded r v p q n =
     let b = 222 + (r - 8) / 8 in
     let c = (r - 8) % 8 * 32 + (v / 8 - 1) in
     by_2 b c (two b (omega arith) (omega arith))
-    (op_as 3 1 (omega (arith, n.units, n.some, n.fits)) (omega (arith, n.units, n.some, n.fits)) ∙ save_freg_x b (256 * b + c) (omega arith))
+    (op_as 3 1 (omega (arith, n.units, n.some, n.fits)) (omega (arith, n.units, n.some, n.fits)) ∙ ap words_of (save_freg_x b (256 * b + c) (omega arith)))
 
 save_regp_encoded : (r v : ℕ) → 19 ≤ r → r ≤ 34 → Near v → Encoded 4 0 r v (six 200 (r - 19) (v / 8))
+unfolding words_of
 save_regp_encoded r v p q n =
     let b = 200 + (r - 19) / 4 in
     let c = (r - 19) % 4 * 64 + v / 8 in
     by_2 b c (two b (omega arith) (omega arith))
-    (op_as 4 0 (omega (arith, n.units, n.fits)) (omega (arith, n.units, n.fits)) ∙ save_regp b (256 * b + c) (omega arith) (omega arith))
+    (op_as 4 0 (omega (arith, n.units, n.fits)) (omega (arith, n.units, n.fits)) ∙ ap words_of (save_regp b (256 * b + c) (omega arith) (omega arith)))
 
 save_fregp_encoded : (r v : ℕ) → 8 ≤ r → r ≤ 15 → Near v → Encoded 4 1 r v (six 216 (r - 8) (v / 8))
+unfolding words_of
 save_fregp_encoded r v p q n =
     let b = 216 + (r - 8) / 4 in
     let c = (r - 8) % 4 * 64 + v / 8 in
     by_2 b c (two b (omega arith) (omega arith))
-    (op_as 4 1 (omega (arith, n.units, n.fits)) (omega (arith, n.units, n.fits)) ∙ save_fregp b (256 * b + c) (omega arith) (omega arith))
+    (op_as 4 1 (omega (arith, n.units, n.fits)) (omega (arith, n.units, n.fits)) ∙ ap words_of (save_fregp b (256 * b + c) (omega arith) (omega arith)))
 
 save_regp_x_encoded : (r v : ℕ) → 19 ≤ r → r ≤ 34 → NearPre 512 v → Encoded 5 0 r v (six 204 (r - 19) (v / 8 - 1))
+unfolding words_of
 save_regp_x_encoded r v p q n =
     let b = 204 + (r - 19) / 4 in
     let c = (r - 19) % 4 * 64 + (v / 8 - 1) in
     by_2 b c (two b (omega arith) (omega arith))
-    (op_as 5 0 (omega (arith, n.units, n.some, n.fits)) (omega (arith, n.units, n.some, n.fits)) ∙ save_regp_x b (256 * b + c) (omega arith) (omega arith))
+    (op_as 5 0 (omega (arith, n.units, n.some, n.fits)) (omega (arith, n.units, n.some, n.fits)) ∙ ap words_of (save_regp_x b (256 * b + c) (omega arith) (omega arith)))
 
 save_fregp_x_encoded : (r v : ℕ) → 8 ≤ r → r ≤ 15 → NearPre 512 v → Encoded 5 1 r v (six 218 (r - 8) (v / 8 - 1))
+unfolding words_of
 save_fregp_x_encoded r v p q n =
     let b = 218 + (r - 8) / 4 in
     let c = (r - 8) % 4 * 64 + (v / 8 - 1) in
     by_2 b c (two b (omega arith) (omega arith))
-    (op_as 5 1 (omega (arith, n.units, n.some, n.fits)) (omega (arith, n.units, n.some, n.fits)) ∙ save_fregp_x b (256 * b + c) (omega arith) (omega arith))
+    (op_as 5 1 (omega (arith, n.units, n.some, n.fits)) (omega (arith, n.units, n.some, n.fits)) ∙ ap words_of (save_fregp_x b (256 * b + c) (omega arith) (omega arith)))
 
 save_lrpair_encoded : (r v : ℕ) → 19 ≤ r → r ≤ 33 → r % 2 ≡ 1 → Near v → Encoded 6 0 r v (six 214 ((r - 19) / 2) (v / 8))
+unfolding words_of
 save_lrpair_encoded r v p q o n =
     let b = 214 + (r - 19) / 2 / 4 in
     let c = (r - 19) / 2 % 4 * 64 + v / 8 in
     by_2 b c (two b (omega arith) (omega arith))
-    (op_as 6 0 (omega (arith, n.units, n.fits)) (omega (arith, n.units, n.fits)) ∙ save_lrpair b (256 * b + c) (omega arith) (omega arith))
+    (op_as 6 0 (omega (arith, n.units, n.fits)) (omega (arith, n.units, n.fits)) ∙ ap words_of (save_lrpair b (256 * b + c) (omega arith) (omega arith)))
 
 -- ---- each kind
 
@@ -353,21 +368,21 @@ save_encoded l r v =
     (any_placed l r v)
 
 save_pre_encoded : (l r v : ℕ) → T (op_encodes 3 l r v) → Encoded 3 l r v (save_pre_bytes l r v)
-unfolding op_encodes save_pre_bytes
+unfolding op_encodes save_pre_bytes words_of
 save_pre_encoded l r v =
     choose (is_x l r && near_five v) (is_d l r && near_five v) (any_has 0 1 l r v)
     (of_x {xs = λ (r : ℕ). five 212 (r - 19) (v / 8 - 1)} 19 34 0 l r (near_five v) (λ r p q n. save_reg_x_encoded r v p q (near_pre_lem 256 v n)))
     (of_x {xs = λ (r : ℕ). five 222 (r - 8) (v / 8 - 1)} 8 15 1 l r (near_five v) (λ r p q n. save_freg_x_encoded r v p q (near_pre_lem 256 v n)))
-    (λ h. let a = any_has_lem 1 l r v h in any_encoded 0 1 l r (v / 16 - 1) v (omega arith) (omega arith) a.letter a.register (omega (arith, a.fits)) (omega (arith, a.units, a.some)))
+    (λ h. let a = any_has_lem 1 l r v h in any_encoded 0 1 l r (v / 16 - 1) v (omega arith) (omega arith) a.letter a.register (omega (arith, a.fits)) (omega (arith, a.units, a.some)) (λ w. refl))
 
 pair_encoded : (l r v : ℕ) → T (op_encodes 4 l r v) → Encoded 4 l r v (pair_bytes l r v)
-unfolding op_encodes pair_bytes
+unfolding op_encodes pair_bytes words_of
 pair_encoded l r v =
     first (is_fp l r && near v) _ fp
     (choose (is_x l r && near v) (is_d l r && near v) (any_has 1 0 l r v)
     (of_x {xs = λ (r : ℕ). six 200 (r - 19) (v / 8)} 19 34 0 l r (near v) (λ r p q n. save_regp_encoded r v p q (near_is v n)))
     (of_x {xs = λ (r : ℕ). six 216 (r - 8) (v / 8)} 8 15 1 l r (near v) (λ r p q n. save_fregp_encoded r v p q (near_is v n)))
-    (λ h. let a = any_has_lem 0 l r v h in any_encoded 1 0 l r (v / 16) v (omega arith) (omega arith) a.letter a.register (omega (arith, a.fits)) (omega (arith, a.units, a.some))))
+    (λ h. let a = any_has_lem 0 l r v h in any_encoded 1 0 l r (v / 16) v (omega arith) (omega arith) a.letter a.register (omega (arith, a.fits)) (omega (arith, a.units, a.some)) (λ w. refl)))
   where
     fp : T (is_fp l r && near v) → Encoded 4 l r v ((64 + v / 8) ∷ [])
     fp h =
@@ -375,17 +390,17 @@ pair_encoded l r v =
         let y : r ≡ 29 = eqb→eq r 29 (and_r (eqb l 0) (eqb r 29) (and_l (is_fp l r) (near v) h)) in
         let n = near_is v (and_r (is_fp l r) (near v) h) in
         let b = 64 + v / 8 in
-        rw (x, y) (by_1 b (one b (omega (arith, n.fits))) (op_as 4 0 refl (omega (arith, n.units, n.fits)) ∙ save_fplr b b (omega arith) (omega (arith, n.fits))))
+        rw (x, y) (by_1 b (one b (omega (arith, n.fits))) (op_as 4 0 refl (omega (arith, n.units, n.fits)) ∙ ap words_of (save_fplr b b (omega arith) (omega (arith, n.fits)))))
 
 pair_pre_encoded : (l r v : ℕ) → T (op_encodes 5 l r v) → Encoded 5 l r v (pair_pre_bytes l r v)
-unfolding op_encodes pair_pre_bytes
+unfolding op_encodes pair_pre_bytes words_of
 pair_pre_encoded l r v =
     first (is_r19 l r v) _ r19
     (first (is_fp l r && near_pre v) _ fp
     (choose (is_x l r && near_pre v) (is_d l r && near_pre v) (any_has 1 1 l r v)
     (of_x {xs = λ (r : ℕ). six 204 (r - 19) (v / 8 - 1)} 19 34 0 l r (near_pre v) (λ r p q n. save_regp_x_encoded r v p q (near_pre_lem 512 v n)))
     (of_x {xs = λ (r : ℕ). six 218 (r - 8) (v / 8 - 1)} 8 15 1 l r (near_pre v) (λ r p q n. save_fregp_x_encoded r v p q (near_pre_lem 512 v n)))
-    (λ h. let a = any_has_lem 1 l r v h in any_encoded 1 1 l r (v / 16 - 1) v (omega arith) (omega arith) a.letter a.register (omega (arith, a.fits)) (omega (arith, a.units, a.some)))))
+    (λ h. let a = any_has_lem 1 l r v h in any_encoded 1 1 l r (v / 16 - 1) v (omega arith) (omega arith) a.letter a.register (omega (arith, a.fits)) (omega (arith, a.units, a.some)) (λ w. refl))))
   where
     r19 : T (is_r19 l r v) → Encoded 5 l r v ((32 + v / 8) ∷ [])
     r19 h =
@@ -395,7 +410,7 @@ pair_pre_encoded l r v =
         let u : v % 8 ≡ 0 = eqb→eq (v % 8) 0 (and_l (eqb (v % 8) 0) (ltb v 256) n) in
         let f : v < 256 = ltb→lt v 256 (and_r (eqb (v % 8) 0) (ltb v 256) n) in
         let b = 32 + v / 8 in
-        rw (x, y) (by_1 b (one b (omega arith)) (op_as 5 0 refl (omega arith) ∙ save_r19r20_x b b (omega arith) (omega arith)))
+        rw (x, y) (by_1 b (one b (omega arith)) (op_as 5 0 refl (omega arith) ∙ ap words_of (save_r19r20_x b b (omega arith) (omega arith))))
 
     fp : T (is_fp l r && near_pre v) → Encoded 5 l r v ((128 + (v / 8 - 1)) ∷ [])
     fp h =
@@ -404,7 +419,7 @@ pair_pre_encoded l r v =
         let n = near_pre_lem 512 v (and_r (is_fp l r) (near_pre v) h) in
         let b = 128 + (v / 8 - 1) in
         rw (x, y)
-        (by_1 b (one b (omega (arith, n.fits))) (op_as 5 0 refl (omega (arith, n.units, n.some, n.fits)) ∙ save_fplr_x b b (omega arith) (omega (arith, n.fits))))
+        (by_1 b (one b (omega (arith, n.fits))) (op_as 5 0 refl (omega (arith, n.units, n.some, n.fits)) ∙ ap words_of (save_fplr_x b b (omega arith) (omega (arith, n.fits)))))
 
 none_is : (l r v : ℕ) → T (none l r v) → (l ≡ 0) × ((r ≡ 0) × (v ≡ 0))
 none_is l r v h =
@@ -412,7 +427,7 @@ none_is l r v h =
     (eqb→eq l 0 (and_l (eqb l 0) (eqb r 0 && eqb v 0) h), (eqb→eq r 0 (and_l (eqb r 0) (eqb v 0) k), eqb→eq v 0 (and_r (eqb r 0) (eqb v 0) k)))
 
 -- a code without numbers
-plain : (k b : ℕ) {l r v : ℕ} → 1 ≡ (code_of b).size → op k 0 0 0 ≡ meant (code_of b) b → T (none l r v) → Encoded k l r v (b ∷ [])
+plain : (k b : ℕ) {l r v : ℕ} → 1 ≡ (code_of b).size → as_words k 0 0 0 ≡ words_of (meant (code_of b) b) → T (none l r v) → Encoded k l r v (b ∷ [])
 plain k b {l} {r} {v} e o h = let z = none_is l r v h in rw (z.0, z.1.0, z.1.1) (by_1 b e o)
 
 lrpair_encoded : (l r v : ℕ) → T (op_encodes 6 l r v) → Encoded 6 l r v (six 214 ((r - 19) / 2) (v / 8))
@@ -445,7 +460,7 @@ kind {k} {l} {r} {v} {xs} {ys} n P Q f a h = go (eqb k n) refl h
 
 -- every operation that can be encoded
 op_encoded : (k l r v : ℕ) → T (op_encodes k l r v) → Encoded k l r v (op_bytes k l r v)
-unfolding op_encodes op_bytes codes bits_fit find meant
+unfolding op_encodes op_bytes codes bits_fit find meant words_of
 op_encoded k l r v =
     kind 1 _ _ (alloc_is l r v) (kind 2 _ _ (save_encoded l r v) (kind 3 _ _ (save_pre_encoded l r v) (kind 4 _ _ (pair_encoded l r v)
     (kind 5 _ _ (pair_pre_encoded l r v) (kind 6 _ _ (lrpair_encoded l r v) (kind 7 (none l r v) _ (plain 7 230 refl refl) (kind 8 (none l r v) _ (plain 8 227 refl refl)
@@ -465,7 +480,7 @@ ops_bytes (suc n) ws = op_bytes (word ws 0) (word ws 1) (word ws 2) (word ws 3) 
 unfoldable pub ops_encode : ℕ → List ℕ → Bool
 ops_encode zero ws = eqb (length ws) 0
 ops_encode (suc n) ws =
-    leb 4 (length ws) && (op_encodes (word ws 0) (word ws 1) (word ws 2) (word ws 3) && ((not (ends (op (word ws 0) 0 0 0)) || eqb n 0) && ops_encode n (drop 4 ws)))
+    leb 4 (length ws) && (op_encodes (word ws 0) (word ws 1) (word ws 2) (word ws 3) && ((not (ends_kind (word ws 0)) || eqb n 0) && ops_encode n (drop 4 ws)))
 
 -- the unwind codes of a body; address and size are not among them
 unfoldable pub encode : List ℕ → List ℕ
@@ -495,7 +510,7 @@ no_words (w ∷ ws) h = absurd (omega (arith, eqb→eq (length (w ∷ ws)) 0 h))
 record More (n : ℕ) (ws : List ℕ) : Type 0 where
   pub long : 4 ≤ length ws
   pub first : T (op_encodes (word ws 0) (word ws 1) (word ws 2) (word ws 3))
-  pub last : T (not (ends (op (word ws 0) 0 0 0)) || eqb n 0)
+  pub last : T (not (ends_kind (word ws 0)) || eqb n 0)
   pub rest : T (ops_encode n (drop 4 ws))
 
 more : (n : ℕ) (ws : List ℕ) → T (ops_encode (suc n) ws) → More n ws
@@ -503,7 +518,7 @@ unfolding ops_encode
 more n ws h =
     let a = leb 4 (length ws) in
     let b = op_encodes (word ws 0) (word ws 1) (word ws 2) (word ws 3) in
-    let c = not (ends (op (word ws 0) 0 0 0)) || eqb n 0 in
+    let c = not (ends_kind (word ws 0)) || eqb n 0 in
     let d = ops_encode n (drop 4 ws) in
     let h₁ = and_r a (b && (c && d)) h in
     let h₂ = and_r b (c && d) h₁ in
@@ -547,13 +562,13 @@ ops_read (suc n) ws h = go (ops_read n (drop 4 ws) m.rest)
         list_first (bytes ++ rest) (omega (arith, x.some, length-append bytes rest))
         ∙ ap (λ (j : ℕ). (bytes ++ rest) ∷ cond (ends (operation_at (bytes ++ rest))) [] (list (drop j (bytes ++ rest)))) (x.size rest)
         ∙ ap (λ (l : List ℕ). (bytes ++ rest) ∷ cond (ends (operation_at (bytes ++ rest))) [] (list l)) (drop-append_seam bytes rest)
-        ∙ ap (λ (o : Operation). (bytes ++ rest) ∷ cond (ends o) [] (list rest)) (x.is rest)
-        ∙ ap (λ (cs : List (List ℕ)). (bytes ++ rest) ∷ cs) (behind_end (ends (op (word ws 0) 0 0 0)) n (list rest) m.last e)
+        ∙ ap (λ (l : List ℕ). (bytes ++ rest) ∷ cond (ends_kind (get_or l 0 0)) [] (list rest)) (x.is rest)
+        ∙ ap (λ (cs : List (List ℕ)). (bytes ++ rest) ∷ cs) (behind_end (ends_kind (word ws 0)) n (list rest) m.last e)
 
     go : Reads n (drop 4 ws) (list rest) → Reads (suc n) ws (list (bytes ++ rest))
     go ih = rw (codes_are ih.count) (record {
       words =
-          ap (λ (o : Operation). o.kind ∷ o.letter ∷ o.register ∷ o.value ∷ op_words (list rest)) (x.is rest)
+          ap (λ (l : List ℕ). l ++ op_words (list rest)) (x.is rest)
           ∙ ap (λ (l : List ℕ). word ws 0 ∷ word ws 1 ∷ word ws 2 ∷ word ws 3 ∷ l) ih.words ∙ four_words ws m.long;
       count = ap suc ih.count;
       wholes =

@@ -1,10 +1,13 @@
 -- The table by a first byte, and the forms that the code's loops walk.
 use Rattle.std.specs.Prelude.{◌≡◌, refl, Bool, true, false, not, cond, ◌&&◌, ◌||◌, List, [], ◌∷◌, ℕ, zero, suc, ◌+◌, ◌-◌, ◌*◌, ◌/◌, ◌%◌, ◌^◌, ◌≤◌, ◌<◌, T, length, get_or, drop, eqb, leb}
-use Rattle.std.proofs.Common.{sym, ap, ◌∙◌, arith, subst, eqb→eq, leb→le, ne_eqb, get_or-drop, length-drop, drop_of_length-le, drop-drop}
+use Rattle.std.proofs.Common.{sym, ap, ◌∙◌, arith, subst, eqb→eq, leb→le, ne_eqb, get_or-drop, length-append, length-drop, drop_of_length-le, drop-drop}
 use Rattle.text.specs.Text.{ascii}
-use Rattle.text.specs.Tests.{is_false, and_l, and_r, all, tests, at}
-use Rattle.unwind_codes.specs.declared.Operation.{Operation}
-use Rattle.unwind_codes.specs.UnwindCodes.{op, other, end, undecodable, scalable, any_reg, Code, code, codes, fits, bits_fit, find, code_of, count, behind, X, Z, meant, number, byte}
+use Rattle.text.specs.Tests.{is_false, and_l, and_r, all, tests, at, eqw, eqw→eq}
+use Rattle.arm64.specs.declared.Op.{Op}
+use Rattle.arm64.specs.declared.Op.TheVariants.{AllocStack, SaveReg, SaveRegPreindexed, SaveRegPair, SaveRegPairPreindexed, SaveLrPair, SaveNext, Other, End, Undecodable}
+use Rattle.arm64.specs.Arm64.{words_of}
+use Rattle.arm64.specs.Index.{op_at, words_read, words_length}
+use Rattle.unwind_codes.specs.UnwindCodes.{any_reg, Code, code, codes, fits, bits_fit, find, code_of, count, behind, X, Z, meant, number, byte}
 use Rattle.unwind_codes.specs.UnwindCodes.{size_at, operation_at, ends, list_in, list, op_words}
 
 -- ---- what the table is held to
@@ -44,7 +47,7 @@ fields = tt
 
 -- where it fits none
 abbrev none : Code
-none = code "--------" 1 (λ x z. undecodable)
+none = code "--------" 1 (λ x z. Undecodable)
 
 -- which one it is
 abbrev index : List Code → ℕ → ℕ
@@ -68,77 +71,77 @@ range lo n k h b p q =
     subst (λ (j : ℕ). index codes j ≡ k) e (eqb→eq (index codes (lo + (b - lo))) k (at n (λ i. eqb (index codes (lo + i)) k) h (b - lo) (omega arith))) in
     find_index codes b ∙ ap (λ (j : ℕ). get_or codes j none) i
 
-op_same : (k l : ℕ) {r s v w : ℕ} → r ≡ s → v ≡ w → op k l r v ≡ op k l s w
-op_same k l e f = rw (e, f)
+op_same : (f : ℕ → ℕ → Op) {r s v w : ℕ} → r ≡ s → v ≡ w → f r v ≡ f s w
+op_same f e g = rw (e, g)
 
 -- ---- each code by its first byte b, where its bytes make the number n
 
 by_range : (lo m k : ℕ) → T (tests m (λ i. eqb (index codes (lo + i)) k)) → (b n : ℕ) → lo ≤ b → b < lo + m → meant (get_or codes k none) n ≡ meant (code_of b) n
 by_range lo m k h b n p q = ap (λ (c : Code). meant c n) (sym (range lo m k h b p q))
 
-pub alloc_s : (b n : ℕ) → b < 32 → op 1 0 0 (16 * (n % 32)) ≡ meant (code_of b) n
+pub alloc_s : (b n : ℕ) → b < 32 → AllocStack (16 * (n % 32)) ≡ meant (code_of b) n
 unfolding codes bits_fit meant count behind
-alloc_s b n h = op_same 1 0 refl (omega arith) ∙ by_range 0 32 0 tt b n (omega arith) (omega arith)
+alloc_s b n h = ap AllocStack (omega arith) ∙ by_range 0 32 0 tt b n (omega arith) (omega arith)
 
-pub save_r19r20_x : (b n : ℕ) → 32 ≤ b → b < 64 → op 5 0 19 (8 * (n % 32)) ≡ meant (code_of b) n
+pub save_r19r20_x : (b n : ℕ) → 32 ≤ b → b < 64 → SaveRegPairPreindexed 0 19 (8 * (n % 32)) ≡ meant (code_of b) n
 unfolding codes bits_fit meant count behind
-save_r19r20_x b n p q = op_same 5 0 refl (omega arith) ∙ by_range 32 32 1 tt b n p q
+save_r19r20_x b n p q = op_same (SaveRegPairPreindexed 0) refl (omega arith) ∙ by_range 32 32 1 tt b n p q
 
-pub save_fplr : (b n : ℕ) → 64 ≤ b → b < 128 → op 4 0 29 (8 * (n % 64)) ≡ meant (code_of b) n
+pub save_fplr : (b n : ℕ) → 64 ≤ b → b < 128 → SaveRegPair 0 29 (8 * (n % 64)) ≡ meant (code_of b) n
 unfolding codes bits_fit meant count behind
-save_fplr b n p q = op_same 4 0 refl (omega arith) ∙ by_range 64 64 2 tt b n p q
+save_fplr b n p q = op_same (SaveRegPair 0) refl (omega arith) ∙ by_range 64 64 2 tt b n p q
 
-pub save_fplr_x : (b n : ℕ) → 128 ≤ b → b < 192 → op 5 0 29 (8 * (n % 64) + 8) ≡ meant (code_of b) n
+pub save_fplr_x : (b n : ℕ) → 128 ≤ b → b < 192 → SaveRegPairPreindexed 0 29 (8 * (n % 64) + 8) ≡ meant (code_of b) n
 unfolding codes bits_fit meant count behind
-save_fplr_x b n p q = op_same 5 0 refl (omega arith) ∙ by_range 128 64 3 tt b n p q
+save_fplr_x b n p q = op_same (SaveRegPairPreindexed 0) refl (omega arith) ∙ by_range 128 64 3 tt b n p q
 
-pub alloc_m : (b n : ℕ) → 192 ≤ b → b < 200 → op 1 0 0 (16 * (n % 2048)) ≡ meant (code_of b) n
+pub alloc_m : (b n : ℕ) → 192 ≤ b → b < 200 → AllocStack (16 * (n % 2048)) ≡ meant (code_of b) n
 unfolding codes bits_fit meant count behind
-alloc_m b n p q = op_same 1 0 refl (omega arith) ∙ by_range 192 8 4 tt b n p q
+alloc_m b n p q = ap AllocStack (omega arith) ∙ by_range 192 8 4 tt b n p q
 
-pub save_regp : (b n : ℕ) → 200 ≤ b → b < 204 → op 4 0 (19 + n / 64 % 16) (8 * (n % 64)) ≡ meant (code_of b) n
+pub save_regp : (b n : ℕ) → 200 ≤ b → b < 204 → SaveRegPair 0 (19 + n / 64 % 16) (8 * (n % 64)) ≡ meant (code_of b) n
 unfolding codes bits_fit meant count behind
-save_regp b n p q = op_same 4 0 refl (omega arith) ∙ by_range 200 4 5 tt b n p q
+save_regp b n p q = op_same (SaveRegPair 0) refl (omega arith) ∙ by_range 200 4 5 tt b n p q
 
-pub save_regp_x : (b n : ℕ) → 204 ≤ b → b < 208 → op 5 0 (19 + n / 64 % 16) (8 * (n % 64) + 8) ≡ meant (code_of b) n
+pub save_regp_x : (b n : ℕ) → 204 ≤ b → b < 208 → SaveRegPairPreindexed 0 (19 + n / 64 % 16) (8 * (n % 64) + 8) ≡ meant (code_of b) n
 unfolding codes bits_fit meant count behind
-save_regp_x b n p q = op_same 5 0 refl (omega arith) ∙ by_range 204 4 6 tt b n p q
+save_regp_x b n p q = op_same (SaveRegPairPreindexed 0) refl (omega arith) ∙ by_range 204 4 6 tt b n p q
 
-pub save_reg : (b n : ℕ) → 208 ≤ b → b < 212 → op 2 0 (19 + n / 64 % 16) (8 * (n % 64)) ≡ meant (code_of b) n
+pub save_reg : (b n : ℕ) → 208 ≤ b → b < 212 → SaveReg 0 (19 + n / 64 % 16) (8 * (n % 64)) ≡ meant (code_of b) n
 unfolding codes bits_fit meant count behind
-save_reg b n p q = op_same 2 0 refl (omega arith) ∙ by_range 208 4 7 tt b n p q
+save_reg b n p q = op_same (SaveReg 0) refl (omega arith) ∙ by_range 208 4 7 tt b n p q
 
-pub save_reg_x : (b n : ℕ) → 212 ≤ b → b < 214 → op 3 0 (19 + n / 32 % 16) (8 * (n % 32) + 8) ≡ meant (code_of b) n
+pub save_reg_x : (b n : ℕ) → 212 ≤ b → b < 214 → SaveRegPreindexed 0 (19 + n / 32 % 16) (8 * (n % 32) + 8) ≡ meant (code_of b) n
 unfolding codes bits_fit meant count behind
-save_reg_x b n p q = op_same 3 0 refl (omega arith) ∙ by_range 212 2 8 tt b n p q
+save_reg_x b n p q = op_same (SaveRegPreindexed 0) refl (omega arith) ∙ by_range 212 2 8 tt b n p q
 
-pub save_lrpair : (b n : ℕ) → 214 ≤ b → b < 216 → op 6 0 (19 + 2 * (n / 64 % 8)) (8 * (n % 64)) ≡ meant (code_of b) n
+pub save_lrpair : (b n : ℕ) → 214 ≤ b → b < 216 → SaveLrPair (19 + 2 * (n / 64 % 8)) (8 * (n % 64)) ≡ meant (code_of b) n
 unfolding codes bits_fit meant count behind
-save_lrpair b n p q = op_same 6 0 refl (omega arith) ∙ by_range 214 2 9 tt b n p q
+save_lrpair b n p q = op_same SaveLrPair refl (omega arith) ∙ by_range 214 2 9 tt b n p q
 
-pub save_fregp : (b n : ℕ) → 216 ≤ b → b < 218 → op 4 1 (8 + n / 64 % 8) (8 * (n % 64)) ≡ meant (code_of b) n
+pub save_fregp : (b n : ℕ) → 216 ≤ b → b < 218 → SaveRegPair 1 (8 + n / 64 % 8) (8 * (n % 64)) ≡ meant (code_of b) n
 unfolding codes bits_fit meant count behind
-save_fregp b n p q = op_same 4 1 refl (omega arith) ∙ by_range 216 2 10 tt b n p q
+save_fregp b n p q = op_same (SaveRegPair 1) refl (omega arith) ∙ by_range 216 2 10 tt b n p q
 
-pub save_fregp_x : (b n : ℕ) → 218 ≤ b → b < 220 → op 5 1 (8 + n / 64 % 8) (8 * (n % 64) + 8) ≡ meant (code_of b) n
+pub save_fregp_x : (b n : ℕ) → 218 ≤ b → b < 220 → SaveRegPairPreindexed 1 (8 + n / 64 % 8) (8 * (n % 64) + 8) ≡ meant (code_of b) n
 unfolding codes bits_fit meant count behind
-save_fregp_x b n p q = op_same 5 1 refl (omega arith) ∙ by_range 218 2 11 tt b n p q
+save_fregp_x b n p q = op_same (SaveRegPairPreindexed 1) refl (omega arith) ∙ by_range 218 2 11 tt b n p q
 
-pub save_freg : (b n : ℕ) → 220 ≤ b → b < 222 → op 2 1 (8 + n / 64 % 8) (8 * (n % 64)) ≡ meant (code_of b) n
+pub save_freg : (b n : ℕ) → 220 ≤ b → b < 222 → SaveReg 1 (8 + n / 64 % 8) (8 * (n % 64)) ≡ meant (code_of b) n
 unfolding codes bits_fit meant count behind
-save_freg b n p q = op_same 2 1 refl (omega arith) ∙ by_range 220 2 12 tt b n p q
+save_freg b n p q = op_same (SaveReg 1) refl (omega arith) ∙ by_range 220 2 12 tt b n p q
 
-pub save_freg_x : (b n : ℕ) → b ≡ 222 → op 3 1 (8 + n / 32 % 8) (8 * (n % 32) + 8) ≡ meant (code_of b) n
+pub save_freg_x : (b n : ℕ) → b ≡ 222 → SaveRegPreindexed 1 (8 + n / 32 % 8) (8 * (n % 32) + 8) ≡ meant (code_of b) n
 unfolding codes bits_fit meant count behind
-save_freg_x b n e = op_same 3 1 refl (omega arith) ∙ by_range 222 1 13 tt b n (omega arith) (omega arith)
+save_freg_x b n e = op_same (SaveRegPreindexed 1) refl (omega arith) ∙ by_range 222 1 13 tt b n (omega arith) (omega arith)
 
-pub alloc_z : (b n : ℕ) → b ≡ 223 → other ≡ meant (code_of b) n
+pub alloc_z : (b n : ℕ) → b ≡ 223 → Other ≡ meant (code_of b) n
 unfolding codes bits_fit meant count behind
 alloc_z b n e = by_range 223 1 14 tt b n (omega arith) (omega arith)
 
-pub alloc_l : (b n : ℕ) → b ≡ 224 → op 1 0 0 (16 * (n % 16777216)) ≡ meant (code_of b) n
+pub alloc_l : (b n : ℕ) → b ≡ 224 → AllocStack (16 * (n % 16777216)) ≡ meant (code_of b) n
 unfolding codes bits_fit meant count behind
-alloc_l b n e = op_same 1 0 refl (omega arith) ∙ by_range 224 1 15 tt b n (omega arith) (omega arith)
+alloc_l b n e = ap AllocStack (omega arith) ∙ by_range 224 1 15 tt b n (omega arith) (omega arith)
 
 pub any_reg_lem : (b n : ℕ) → b ≡ 231 → any_reg (n / 256 % 256) (n % 256) ≡ meant (code_of b) n
 unfolding codes bits_fit meant count behind
@@ -148,50 +151,45 @@ any_reg_lem b n e =
 
 -- ---- codes without a number
 
-abbrev same_op : Operation → Operation → Bool
-same_op o q = eqb o.kind q.kind && (eqb o.letter q.letter && (eqb o.register q.register && eqb o.value q.value))
+abbrev same_op : Op → Op → Bool
+same_op o q = eqw (words_of o) (words_of q)
 
-same_op_lem : (o q : Operation) → T (same_op o q) → o ≡ q
-same_op_lem o q h =
-    let k : o.kind ≡ q.kind = eqb→eq o.kind q.kind (search (and_l, and_r)) in
-    let l : o.letter ≡ q.letter = eqb→eq o.letter q.letter (search (and_l, and_r)) in
-    let r : o.register ≡ q.register = eqb→eq o.register q.register (search (and_l, and_r)) in
-    let v : o.value ≡ q.value = eqb→eq o.value q.value (search (and_l, and_r)) in
-    rw (k, l, r, v)
+same_op_lem : (o q : Op) → T (same_op o q) → o ≡ q
+same_op_lem o q h = sym (words_read o) ∙ ap op_at (eqw→eq (words_of o) (words_of q) h) ∙ words_read q
 
 -- the m first bytes from lo on all become o, whatever the number is
-becomes : (lo m : ℕ) (o : Operation) (n : ℕ) → T (tests m (λ i. same_op o (meant (code_of (lo + i)) n))) → (b : ℕ) → lo ≤ b → b < lo + m → o ≡ meant (code_of b) n
+becomes : (lo m : ℕ) (o : Op) (n : ℕ) → T (tests m (λ i. same_op o (meant (code_of (lo + i)) n))) → (b : ℕ) → lo ≤ b → b < lo + m → o ≡ meant (code_of b) n
 becomes lo m o n h b p q =
     let e : lo + (b - lo) ≡ b = omega arith in
     subst (λ (j : ℕ). o ≡ meant (code_of j) n) e
     (same_op_lem o (meant (code_of (lo + (b - lo))) n) (at m (λ i. same_op o (meant (code_of (lo + i)) n)) h (b - lo) (omega arith)))
 
 -- set_fp, add_fp, nop
-pub no_kind : (b n : ℕ) → 225 ≤ b → b < 228 → other ≡ meant (code_of b) n
-unfolding codes bits_fit find meant
-no_kind b n p q = becomes 225 3 other n tt b p q
+pub no_kind : (b n : ℕ) → 225 ≤ b → b < 228 → Other ≡ meant (code_of b) n
+unfolding words_of codes bits_fit find meant
+no_kind b n p q = becomes 225 3 Other n tt b p q
 
 -- end, end_c
-pub an_end : (b n : ℕ) → 228 ≤ b → b < 230 → end ≡ meant (code_of b) n
-unfolding codes bits_fit find meant
-an_end b n p q = becomes 228 2 end n tt b p q
+pub an_end : (b n : ℕ) → 228 ≤ b → b < 230 → End ≡ meant (code_of b) n
+unfolding words_of codes bits_fit find meant
+an_end b n p q = becomes 228 2 End n tt b p q
 
-pub save_next : (b n : ℕ) → b ≡ 230 → op 7 0 0 0 ≡ meant (code_of b) n
-unfolding codes bits_fit find meant
-save_next b n e = becomes 230 1 (op 7 0 0 0) n tt b (omega arith) (omega arith)
+pub save_next : (b n : ℕ) → b ≡ 230 → SaveNext ≡ meant (code_of b) n
+unfolding words_of codes bits_fit find meant
+save_next b n e = becomes 230 1 SaveNext n tt b (omega arith) (omega arith)
 
 -- custom stack and reserved codes
-pub reserved : (b n : ℕ) → 232 ≤ b → b < 252 → undecodable ≡ meant (code_of b) n
-unfolding codes bits_fit find meant
-reserved b n p q = becomes 232 20 undecodable n tt b p q
+pub reserved : (b n : ℕ) → 232 ≤ b → b < 252 → Undecodable ≡ meant (code_of b) n
+unfolding words_of codes bits_fit find meant
+reserved b n p q = becomes 232 20 Undecodable n tt b p q
 
-pub pac_sign_lr : (b n : ℕ) → b ≡ 252 → other ≡ meant (code_of b) n
-unfolding codes bits_fit find meant
-pac_sign_lr b n e = becomes 252 1 other n tt b (omega arith) (omega arith)
+pub pac_sign_lr : (b n : ℕ) → b ≡ 252 → Other ≡ meant (code_of b) n
+unfolding words_of codes bits_fit find meant
+pac_sign_lr b n e = becomes 252 1 Other n tt b (omega arith) (omega arith)
 
-pub reserved_last : (b n : ℕ) → 253 ≤ b → b < 256 → undecodable ≡ meant (code_of b) n
-unfolding codes bits_fit find meant
-reserved_last b n p q = becomes 253 3 undecodable n tt b p q
+pub reserved_last : (b n : ℕ) → 253 ≤ b → b < 256 → Undecodable ≡ meant (code_of b) n
+unfolding words_of codes bits_fit find meant
+reserved_last b n p q = becomes 253 3 Undecodable n tt b p q
 
 -- ---- how many bytes
 
@@ -220,14 +218,6 @@ others_one b p q h =
     let t : T (longer b || eqb 1 (code_of b).size) =
     subst (λ (j : ℕ). T (longer j || eqb 1 (code_of j).size)) e (at 32 (λ i. longer (224 + i) || eqb 1 (code_of (224 + i)).size) tt (b - 224) (omega arith)) in
     eqb→eq 1 (code_of b).size (rw h at t)
-
--- a scalable register's save ends the list where it is reserved
-pub ends_scalable : (s : ℕ) → eqb (s / 4 % 8) 4 ≡ ends (scalable s)
-ends_scalable s = go (eqb (s / 4 % 8) 4)
-  where
-    go : (t : Bool) → t ≡ ends (cond t undecodable other)
-    go true = refl
-    go false = refl
 
 -- a code has a byte at least, and five at most
 sizes_fit_lem : (cs : List Code) → T (all (λ c. leb 1 c.size && leb c.size 5) cs) → (b : ℕ) → (1 ≤ (find cs b).size) × ((find cs b).size ≤ 5)
@@ -328,7 +318,7 @@ list_end bs i h = ap (λ (l : List ℕ). list l) (drop_of_length-le bs h) ∙ li
 pub ops_length : (cs : List (List ℕ)) → length (op_words cs) ≡ 4 * length cs
 unfolding op_words
 ops_length [] = refl
-ops_length (c ∷ cs) = omega (arith, ops_length cs)
+ops_length (c ∷ cs) = omega (arith, ops_length cs, words_length (operation_at c), length-append (words_of (operation_at c)) (op_words cs))
 
 -- ---- the operation at a place, by its first byte
 
@@ -353,10 +343,10 @@ module _ (bs : List ℕ) (i : ℕ) where
   pub two_at : 192 ≤ get_or bs i 0 → get_or bs i 0 < 224 → meant (code_of (get_or bs i 0)) (256 * get_or bs i 0 + get_or bs (i + 1) 0) ≡ operation_at (drop i bs)
   two_at p q = ap (λ (n : ℕ). meant (code_of (get_or bs i 0)) n) (sym (number_2 bs i)) ∙ by_size (two (get_or bs i 0) p q)
 
-  pub long_at_lem : {v : ℕ} → get_or bs i 0 ≡ 224 → v ≡ number 3 (drop (i + 1) bs) → v < 2 ^ 24 → op 1 0 0 (16 * v) ≡ operation_at (drop i bs)
+  pub long_at_lem : {v : ℕ} → get_or bs i 0 ≡ 224 → v ≡ number 3 (drop (i + 1) bs) → v < 2 ^ 24 → AllocStack (16 * v) ≡ operation_at (drop i bs)
   long_at_lem {v} e n l =
       let m : v ≡ number 4 (drop i bs) % 16777216 = omega (arith, number_4 bs i) in
-      ap (λ (j : ℕ). op 1 0 0 (16 * j)) m ∙ alloc_l (get_or bs i 0) (number 4 (drop i bs)) e ∙ by_size (four (get_or bs i 0) e)
+      ap (λ (j : ℕ). AllocStack (16 * j)) m ∙ alloc_l (get_or bs i 0) (number 4 (drop i bs)) e ∙ by_size (four (get_or bs i 0) e)
 
   pub any_at : get_or bs i 0 ≡ 231 → get_or bs (i + 1) 0 < 256 → get_or bs (i + 2) 0 < 256 → any_reg (get_or bs (i + 1) 0) (get_or bs (i + 2) 0) ≡ operation_at (drop i bs)
   any_at e p q =
@@ -366,14 +356,10 @@ module _ (bs : List ℕ) (i : ℕ) where
       ∙ any_reg_lem (get_or bs i 0) (number 3 (drop i bs)) e ∙ by_size (three (get_or bs i 0) e)
 
   -- one that has no number
-  pub rest_at : {o : Operation} → ((n : ℕ) → o ≡ meant (code_of (get_or bs i 0)) n) → o ≡ operation_at (drop i bs)
+  pub rest_at : {o : Op} → ((n : ℕ) → o ≡ meant (code_of (get_or bs i 0)) n) → o ≡ operation_at (drop i bs)
   rest_at h = h (number (code_of (get_or bs i 0)).size (drop i bs)) ∙ sym (operation_by bs i)
 
 -- ---- which end the list, by the first byte
-
-pub ends_early : (b n : ℕ) → b < 228 → ends (meant (code_of b) n) ≡ false
-unfolding codes bits_fit find meant
-ends_early b n h = is_false (ends (meant (code_of b) n)) (at 228 (λ j. not (ends (meant (code_of j) n))) tt b h)
 
 abbrev alike : Bool → Bool → Bool
 alike s t = cond s t (not t)
@@ -384,16 +370,23 @@ alike_same true false h = absurd h
 alike_same false true h = absurd h
 alike_same false false h = refl
 
+pub ends_early : (b n : ℕ) → b < 228 → false ≡ ends (meant (code_of b) n)
+unfolding words_of codes bits_fit find meant
+ends_early b n h = sym (is_false (ends (meant (code_of b) n)) (at 228 (λ j. not (ends (meant (code_of j) n))) tt b h))
+
 -- from E4 on all but save_next, save_any_reg and pac_sign_lr
-pub ends_late : (b n : ℕ) → 228 ≤ b → b < 256 → (b ≡ 230 → ⊥) → (b ≡ 231 → ⊥) → not (eqb b 252) ≡ ends (meant (code_of b) n)
-unfolding codes bits_fit find meant
-ends_late b n p q x y =
+abbrev pub late_ends : ℕ → Bool
+late_ends b = not (eqb b 230) && not (eqb b 252)
+
+pub ends_late : (b n : ℕ) → 228 ≤ b → b < 256 → (b ≡ 231 → ⊥) → late_ends b ≡ ends (meant (code_of b) n)
+unfolding words_of codes bits_fit find meant
+ends_late b n p q x =
     let e : 228 + (b - 228) ≡ b = omega arith in
-    let t : T (eqb b 230 || (eqb b 231 || alike (not (eqb b 252)) (ends (meant (code_of b) n)))) =
-    subst (λ (j : ℕ). T (eqb j 230 || (eqb j 231 || alike (not (eqb j 252)) (ends (meant (code_of j) n))))) e
-    (at 28 (λ i. eqb (228 + i) 230 || (eqb (228 + i) 231 || alike (not (eqb (228 + i) 252)) (ends (meant (code_of (228 + i)) n)))) tt (b - 228) (omega arith)) in
-    alike_same (not (eqb b 252)) (ends (meant (code_of b) n)) (rw (ne_eqb b 230 x, ne_eqb b 231 y) at t)
+    let t : T (eqb b 231 || alike (late_ends b) (ends (meant (code_of b) n))) =
+    subst (λ (j : ℕ). T (eqb j 231 || alike (late_ends j) (ends (meant (code_of j) n)))) e
+    (at 28 (λ i. eqb (228 + i) 231 || alike (late_ends (228 + i)) (ends (meant (code_of (228 + i)) n))) tt (b - 228) (omega arith)) in
+    alike_same (late_ends b) (ends (meant (code_of b) n)) (rw (ne_eqb b 231 x) at t)
 
 -- and at a place
 pub ends_at : (bs : List ℕ) (i : ℕ) {t : Bool} → ((n : ℕ) → t ≡ ends (meant (code_of (get_or bs i 0)) n)) → t ≡ ends (operation_at (drop i bs))
-ends_at bs i h = h (number (code_of (get_or bs i 0)).size (drop i bs)) ∙ ap (λ (o : Operation). ends o) (sym (operation_by bs i))
+ends_at bs i h = h (number (code_of (get_or bs i 0)).size (drop i bs)) ∙ ap (λ (o : Op). ends o) (sym (operation_by bs i))

@@ -1,7 +1,7 @@
 -- What is true of every decoded body (document 02, request 3): it keeps the ARM64 layout, so that refusal 4 never meets it; the words that a kind does
 -- not use are 0; it has at most 4,099 words; and what stood in the room does not matter.
 use Rattle.std.specs.Prelude.{◌≡◌, refl, Bool, true, false, cond, ◌&&◌, List, [], ◌∷◌, ◌++◌, ℕ, zero, suc, ◌+◌, ◌*◌, ◌/◌, ◌%◌, ◌≤◌, ◌<◌, T, length, get_or, take, eqb, leb, Result, Ok, Err}
-use Rattle.std.proofs.Common.{arith, length-append, get_or-append-add, append_assoc, leb→le, le→leb, le-leb, leb-false, ne_eqb}
+use Rattle.std.proofs.Common.{subst, arith, length-append, get_or-append-add, append_assoc, leb→le, le→leb, leb-false}
 use Rattle.std.proofs.Math.Seq.{get_or-append_seam}
 use Rattle.std.proofs.Math.Dec.{eqb_refl}
 use Rattle.text.specs.Tests.{is_true, and_l, and_r, both, either, all}
@@ -10,11 +10,12 @@ use Rattle.entry.specs.declared.Fate.TheVariants.{Skip, Write}
 use Rattle.refusal.specs.declared.Refusal.{Refusal}
 use Rattle.refusal.specs.declared.Refusal.TheVariants.{Layout, Reach}
 use Rattle.refusal.specs.Refusal.{answer_number}
-use Rattle.arm64.specs.Arm64.{op_fits, ops_fit, arm_layout, arm_skipped, arm_judged, in_reach, no_pair, ops}
+use Rattle.arm64.specs.Arm64.{words_of, op_fits, ops_fit, arm_layout, arm_skipped, arm_judged, in_reach, no_pair, ops}
 use Rattle.fill.specs.Fill.{Fills}
 use Rattle.fill.specs.Fill.Laws.{count as filled, filled_alike}
-use Rattle.unwind_codes.specs.declared.Operation.{Operation}
-use Rattle.unwind_codes.specs.UnwindCodes.{op, other, undecodable, any_reg, any_reg_offset, Code, codes, fits, find, count, behind, meant, number, size_at, operation_at, whole, list}
+use Rattle.arm64.specs.declared.Op.{Op}
+use Rattle.arm64.specs.declared.Op.TheVariants.{AllocStack, SaveReg, SaveRegPreindexed, SaveRegPair, SaveRegPairPreindexed, SaveLrPair, SaveNext, Other, End, Undecodable}
+use Rattle.unwind_codes.specs.UnwindCodes.{any_reg, any_reg_offset, any_save, Code, codes, fits, find, count, behind, meant, number, size_at, operation_at, whole, list}
 use Rattle.unwind_codes.specs.UnwindCodes.{op_words, arm_body, arm_number, decoded}
 use Rattle.unwind_codes.specs.Index.{ops_length}
 
@@ -33,11 +34,11 @@ unused_zero k l r v =
 -- ---- of one code
 
 module _ (p : ℕ → ℕ → ℕ → ℕ → Bool) where
-  abbrev pub test : Operation → Bool
-  test o = p o.kind o.letter o.register o.value
+  abbrev pub test : Op → Bool
+  test o = p (word (words_of o) 0) (word (words_of o) 1) (word (words_of o) 2) (word (words_of o) 3)
 
   -- where every code of the table passes whatever its bytes are, every operation does
-  found : (cs : List Code) (b n : ℕ) → T (test undecodable) → T (all (λ c. test (meant c n)) cs) → T (test (meant (find cs b) n))
+  found : (cs : List Code) (b n : ℕ) → T (test Undecodable) → T (all (λ c. test (meant c n)) cs) → T (test (meant (find cs b) n))
   unfolding find meant
   found [] b n d h = d
   found (c ∷ cs) b n d h = either (λ (q : Code). test (meant q n)) (fits c b) c (find cs b) (and_l (test (meant c n)) _ h) (found cs b n d (and_r (test (meant c n)) _ h))
@@ -45,7 +46,7 @@ module _ (p : ℕ → ℕ → ℕ → ℕ → Bool) where
   abbrev pub Passes : Type 0
   Passes = (n : ℕ) → T (all (λ c. test (meant c n)) codes)
 
-  pub operation_passes : T (test undecodable) → Passes → (bs : List ℕ) → T (test (operation_at bs))
+  pub operation_passes : T (test Undecodable) → Passes → (bs : List ℕ) → T (test (operation_at bs))
   unfolding operation_at
   operation_passes d h bs = found codes (get_or bs 0 0) (number (size_at bs) bs) d (h (number (size_at bs) bs))
 
@@ -69,22 +70,39 @@ module _ (front : List ℕ) (x y z w : ℕ) (rest : List ℕ) where
       → P (front ++ (x ∷ y ∷ z ∷ w ∷ rest)) (length front + 4)
   behind_four P h = rw (append_assoc front (x ∷ y ∷ z ∷ w ∷ []) rest, length-append front (x ∷ y ∷ z ∷ w ∷ [])) at h
 
+-- the words of an operation, one by one
+words_four : (o : Op) → word (words_of o) 0 ∷ word (words_of o) 1 ∷ word (words_of o) 2 ∷ word (words_of o) 3 ∷ [] ≡ words_of o
+unfolding words_of
+words_four (AllocStack v) = refl
+words_four (SaveReg l r v) = refl
+words_four (SaveRegPreindexed l r v) = refl
+words_four (SaveRegPair l r v) = refl
+words_four (SaveRegPairPreindexed l r v) = refl
+words_four (SaveLrPair r v) = refl
+words_four SaveNext = refl
+words_four Other = refl
+words_four End = refl
+words_four Undecodable = refl
+
 module _ (p : ℕ → ℕ → ℕ → ℕ → Bool) (each : (bs : List ℕ) → T (test p (operation_at bs))) where
+  -- an operation behind others
+  more_pass : (front : List ℕ) (x y z w : ℕ) (rest : List ℕ) (n : ℕ) → T (p x y z w)
+      → T (ops_are p ((front ++ (x ∷ y ∷ z ∷ w ∷ [])) ++ rest) (length (front ++ (x ∷ y ∷ z ∷ w ∷ []))) n)
+      → T (ops_are p (front ++ (x ∷ y ∷ z ∷ w ∷ rest)) (length front) (suc n))
+  unfolding ops_are
+  more_pass front x y z w rest n h k =
+      rw (first_word front x y z w rest, second_word front x y z w rest, third_word front x y z w rest, fourth_word front x y z w rest)
+      (both (p x y z w) _ h (behind_four front x y z w rest (λ ws a. T (ops_are p ws a n)) k))
+
   -- the words of codes, wherever they stand
   ops_pass : (front : List ℕ) (cs : List (List ℕ)) → T (ops_are p (front ++ op_words cs) (length front) (length cs))
   unfolding ops_are op_words
   ops_pass front [] = tt
   ops_pass front (c ∷ cs) =
-      let o = operation_at c in
-      rw (
-        first_word front o.kind o.letter o.register o.value (op_words cs),
-        second_word front o.kind o.letter o.register o.value (op_words cs),
-        third_word front o.kind o.letter o.register o.value (op_words cs),
-        fourth_word front o.kind o.letter o.register o.value (op_words cs),
-      )
-      (both (test p o) _ (each c)
-      (behind_four front o.kind o.letter o.register o.value (op_words cs) (λ ws a. T (ops_are p ws a (length cs)))
-      (ops_pass (front ++ (o.kind ∷ o.letter ∷ o.register ∷ o.value ∷ [])) cs)))
+      let w = words_of (operation_at c) in
+      let here = word w 0 ∷ word w 1 ∷ word w 2 ∷ word w 3 ∷ [] in
+      subst (λ (l : List ℕ). T (ops_are p (front ++ (l ++ op_words cs)) (length front) (suc (length cs)))) (words_four (operation_at c))
+      (more_pass front (word w 0) (word w 1) (word w 2) (word w 3) (op_words cs) (length cs) (each c) (ops_pass (front ++ here) cs))
 
   -- every operation of a decoded body passes
   pub body_passes : (address size : ℕ) (bs : List ℕ) → T (ops_are p (arm_body address size bs) 3 (length (list bs)))
@@ -93,40 +111,44 @@ module _ (p : ℕ → ℕ → ℕ → ℕ → Bool) (each : (bs : List ℕ) → 
 
 -- ---- save_any_reg, by its cases
 
-any_cases : (P : Operation → Type 0) (s t : ℕ) → P undecodable → P other
-    → (s < 128 → P (op (2 + 2 * (s / 64) + s / 32 % 2) (t / 64) (s % 32) (any_reg_offset (s / 64) (s / 32 % 2) (t / 64) (t % 64)))) → P (any_reg s t)
+any_cases : (P : Op → Type 0) (s t : ℕ) → P Undecodable → P Other → (s < 128 → (p x : Bool) (v : ℕ) → P (any_save p x (t / 64) (s % 32) v)) → P (any_reg s t)
 unfolding any_reg
 any_cases P s t u o f = go (leb 128 s) (eqb (t / 64) 3) (eqb (s / 4 % 8) 4) refl
   where
-    go : (x y z : Bool) → leb 128 s ≡ x
-        → P (cond x undecodable (cond y (cond z undecodable other) (op (2 + 2 * (s / 64) + s / 32 % 2) (t / 64) (s % 32) (any_reg_offset (s / 64) (s / 32 % 2) (t / 64) (t % 64)))))
-    go true y z e = u
+    p : Bool
+    p = eqb (s / 64) 1
+
+    x : Bool
+    x = eqb (s / 32 % 2) 1
+
+    v : ℕ
+    v = any_reg_offset p x (t / 64) (t % 64)
+
+    go : (a b c : Bool) → leb 128 s ≡ a → P (cond a Undecodable (cond b (cond c Undecodable Other) (any_save p x (t / 64) (s % 32) v)))
+    go true b c e = u
     go false true true e = u
     go false true false e = o
-    go false false z e = f (leb-false 128 s e)
-
--- its kinds are 2 to 5
-saves : (k : ℕ) → 2 ≤ k → k ≤ 5 → (leb 2 k && leb k 5) ≡ true
-saves k p q = rw (le-leb 2 k p, le-leb k 5 q)
+    go false false c e = f (leb-false 128 s e) p x v
 
 -- ---- unused words
 
 any_unused : (s t : ℕ) → T (test unused_zero (any_reg s t))
-unfolding unused_zero
-any_unused s t =
-    any_cases (λ (o : Operation). T (test unused_zero o)) s t tt tt
-    (λ h. go (2 + 2 * (s / 64) + s / 32 % 2) (t / 64) (s % 32) (any_reg_offset (s / 64) (s / 32 % 2) (t / 64) (t % 64)) (omega arith) (omega arith))
+unfolding unused_zero words_of
+any_unused s t = any_cases (λ (o : Op). T (test unused_zero o)) s t tt tt (λ h p x v. go p x v)
   where
-    go : (k l r v : ℕ) → 2 ≤ k → k ≤ 5 → T (unused_zero k l r v)
-    go k l r v p q = rw (ne_eqb k 1 (omega arith), le-leb 2 k p, le-leb k 5 q) tt
+    go : (p x : Bool) (v : ℕ) → T (test unused_zero (any_save p x (t / 64) (s % 32) v))
+    go true true v = tt
+    go true false v = tt
+    go false true v = tt
+    go false false v = tt
 
 unused_table : Passes unused_zero
-unfolding codes meant count behind unused_zero
+unfolding codes meant count behind unused_zero words_of
 unused_table n = both (test unused_zero (any_reg (n / 256 % 256) (n / 1 % 256))) _ (any_unused (n / 256 % 256) (n / 1 % 256)) tt
 
 -- words that a kind does not use are 0
 pub unused_zero_lem : (address size : ℕ) (bs : List ℕ) → T (ops_are unused_zero (arm_body address size bs) 3 (length (list bs)))
-unfolding unused_zero
+unfolding unused_zero words_of
 unused_zero_lem address size bs = body_passes unused_zero (operation_passes unused_zero tt unused_table) address size bs
 
 -- ---- the layout
@@ -135,14 +157,20 @@ abbrev kind_fits : ℕ → ℕ → ℕ → ℕ → Bool
 kind_fits k l r v = op_fits k r
 
 any_fits : (s t : ℕ) → T (test kind_fits (any_reg s t))
-unfolding op_fits
-any_fits s t = any_cases (λ (o : Operation). T (test kind_fits o)) s t tt tt (λ h. go (2 + 2 * (s / 64) + s / 32 % 2) (s % 32) (omega arith) (omega arith) (omega arith))
+unfolding op_fits words_of
+any_fits s t = any_cases (λ (o : Op). T (test kind_fits o)) s t tt tt (λ h p x v. go p x v)
   where
-    go : (k r : ℕ) → 2 ≤ k → k ≤ 6 → r ≤ 255 → T (op_fits k r)
-    go k r p q h = rw (le-leb 2 k p, le-leb k 6 q) (le→leb r 255 h)
+    fits : T (leb (s % 32) 255)
+    fits = le→leb (s % 32) 255 (omega arith)
+
+    go : (p x : Bool) (v : ℕ) → T (test kind_fits (any_save p x (t / 64) (s % 32) v))
+    go true true v = fits
+    go true false v = fits
+    go false true v = fits
+    go false false v = fits
 
 fits_table : Passes kind_fits
-unfolding codes meant count behind op_fits
+unfolding codes meant count behind op_fits words_of
 fits_table n =
     both (leb (19 + n / 64 % 16) 255) _ (le→leb (19 + n / 64 % 16) 255 (omega arith)) (
     both (leb (19 + n / 64 % 16) 255) _ (le→leb (19 + n / 64 % 16) 255 (omega arith)) (
@@ -178,7 +206,7 @@ few bs e = go (all whole (list bs)) (leb (length (list bs)) 1024) e
 
 -- a decoded body keeps the ARM64 layout
 pub layout_kept : (address size : ℕ) (bs : List ℕ) → arm_number bs ≡ 0 → T (arm_layout (arm_body address size bs))
-unfolding arm_layout arm_body op_fits
+unfolding arm_layout arm_body op_fits words_of
 layout_kept address size bs z =
     both (leb (length (list bs)) 1024) _ (few bs z)
     (ops_fit_lem (arm_body address size bs) (length (list bs)) 3 (body_passes kind_fits (operation_passes kind_fits tt fits_table) address size bs) (omega (arith, body_size address size bs)))

@@ -1,29 +1,8 @@
 // One unwind code: how many bytes it has, and the operation that it becomes. The codes have the page's names.
-ghost use Rattle.std.specs.Prelude.{◌≡◌, ◌≢◌, ℕ, ◌+◌, ◌*◌, ◌/◌, ◌%◌, ◌^◌, ◌<◌, ◌≤◌, length, get_or, drop, T, eqb};
-ghost use Rattle.unwind_codes.specs.UnwindCodes.{op as op_of, number, any_reg_unit, any_reg_offset, scalable as scalable_of, any_reg, code_of, meant, size_at, operation_at, whole, ends as ends_of};
+ghost use Rattle.std.specs.Prelude.{◌≡◌, ◌≢◌, ℕ, ◌+◌, ◌*◌, ◌/◌, ◌%◌, ◌^◌, ◌<◌, ◌≤◌, true, false, MatchOption, length, get_or, drop, T, eqb};
+ghost use Rattle.unwind_codes.specs.UnwindCodes.{number, any_reg_unit, any_reg_offset, scalable as scalable_of, any_save as save_of, any_reg, code_of, meant, size_at, operation_at, whole, ends as ends_of};
 
-use crate::Operation;
-
-// The kinds of operations in a body (docs/BOOK.md, ARM64 body).
-const ALLOC_STACK: u32 = 1;
-
-const SAVE_REG: u32 = 2;
-
-const SAVE_REG_PREINDEXED: u32 = 3;
-
-const SAVE_REG_PAIR: u32 = 4;
-
-const SAVE_REG_PAIR_PREINDEXED: u32 = 5;
-
-const SAVE_LR_PAIR: u32 = 6;
-
-const SAVE_NEXT: u32 = 7;
-
-const OTHER: u32 = 8;
-
-const END: u32 = 9;
-
-const UNDECODABLE: u32 = 10;
+use arm64::Op;
 
 // The letters of registers, and the first that codes number from.
 const X: u32 = 0;
@@ -53,7 +32,7 @@ const ADD_FP: u32 = 0xe2;
 
 const END_CODE: u32 = 0xe4;
 
-const SAVE_NEXT_CODE: u32 = 0xe6;
+const SAVE_NEXT: u32 = 0xe6;
 
 const SAVE_ANY_REG: u32 = 0xe7;
 
@@ -66,17 +45,6 @@ const RESERVED_4: u32 = 0xfa;
 const RESERVED_5: u32 = 0xfb;
 
 const PAC_SIGN_LR: u32 = 0xfc;
-
-fn op(kind: u32, letter: u32, register: u32, value: u32) -> Operation
-    ensures { result ≡ op_of kind letter register value }
-{
-    Operation {
-        kind,
-        letter,
-        register,
-        value,
-    }
-}
 
 // How many bytes a code has, by its first.
 fn size_of(b: u32) -> usize
@@ -101,125 +69,75 @@ fn size_of(b: u32) -> usize
     }
 }
 
-// How many bytes the code has that these start with.
-pub(crate) fn size_at(bytes: &[u8]) -> usize
-    requires { 0 < length bytes.now }
-    ensures { (result ≡ size_at bytes.now) × (1 ≤ result) × (result ≤ 5) }
-{
-    size_of(u32::from(bytes[0]))
-}
-
 // ---- 00 to BF: one byte
 
-// The one pre-indexed pair whose offset is not a unit more than the bits say.
-fn save_r19r20_x(b: u32) -> Operation
-    ensures { result ≡ op_of 5 0 19 (8 * (b % 32)) }
-{
-    op(SAVE_REG_PAIR_PREINDEXED, X, FIRST_X, UNIT * (b % 32))
-}
-
-fn one_byte(b: u32) -> Operation
+#[tactic(auto, using(crate::specs::Index::alloc_s, crate::specs::Index::save_r19r20_x, crate::specs::Index::save_fplr, crate::specs::Index::save_fplr_x))]
+fn one_byte(b: u32) -> Op
     requires { b < 192 }
     ensures { result ≡ meant (code_of b) b }
 {
-    // alloc_s
-    if b < 0x20 {
-        return op(ALLOC_STACK, 0, 0, WIDE_UNIT * (b % 32));
+    match b {
+        // alloc_s
+        ..=0x1f => Op::AllocStack(WIDE_UNIT * (b % 32)),
+        // save_r19r20_x, the one pre-indexed pair whose offset is not a unit more than the bits say
+        ..=0x3f => Op::SaveRegPairPreindexed(X, FIRST_X, UNIT * (b % 32)),
+        // save_fplr
+        ..=0x7f => Op::SaveRegPair(X, FP, UNIT * (b % 64)),
+        // save_fplr_x
+        _ => Op::SaveRegPairPreindexed(X, FP, UNIT * (b % 64) + UNIT),
     }
-    if b < 0x40 {
-        return save_r19r20_x(b);
-    }
-    // save_fplr
-    if b < 0x80 {
-        return op(SAVE_REG_PAIR, X, FP, UNIT * (b % 64));
-    }
-    // save_fplr_x
-    op(SAVE_REG_PAIR_PREINDEXED, X, FP, UNIT * (b % 64) + UNIT)
 }
 
 // ---- C0 to DF: two bytes, as one number n
 
-// An x register and lr: the numbers go up by two.
-fn save_lrpair(n: u32) -> Operation
-    ensures { result ≡ op_of 6 0 (19 + 2 * (n / 64 % 8)) (8 * (n % 64)) }
-{
-    op(SAVE_LR_PAIR, X, FIRST_X + 2 * (n / 64 % 8), UNIT * (n % 64))
-}
-
-// alloc_m, and the codes that save x registers.
-fn integer_save(b: u32, n: u32) -> Operation
+// alloc_m, and the codes that save x registers. Each arm is a line of the page's table: one function for x and d would take the first bytes, the
+// register and the width of its field, and have as many arms.
+#[tactic(auto, using(crate::specs::Index::alloc_m, crate::specs::Index::save_regp, crate::specs::Index::save_regp_x, crate::specs::Index::save_reg, crate::specs::Index::save_reg_x, crate::specs::Index::save_lrpair))]
+fn integer_save(b: u32, n: u32) -> Op
     requires { (192 ≤ b) × (b < 216) }
     ensures { result ≡ meant (code_of b) n }
 {
-    // alloc_m
-    if b < 0xc8 {
-        return op(ALLOC_STACK, 0, 0, WIDE_UNIT * (n % 2048));
+    let register = FIRST_X + n / 64 % 16;
+    let value = UNIT * (n % 64);
+    match b {
+        // alloc_m
+        ..=0xc7 => Op::AllocStack(WIDE_UNIT * (n % 2048)),
+        // save_regp
+        ..=0xcb => Op::SaveRegPair(X, register, value),
+        // save_regp_x
+        ..=0xcf => Op::SaveRegPairPreindexed(X, register, value + UNIT),
+        // save_reg
+        ..=0xd3 => Op::SaveReg(X, register, value),
+        // save_reg_x
+        ..=0xd5 => { Op::SaveRegPreindexed(X, FIRST_X + n / 32 % 16, UNIT * (n % 32) + UNIT) }
+        // save_lrpair: the numbers go up by two
+        _ => Op::SaveLrPair(FIRST_X + 2 * (n / 64 % 8), value),
     }
-    // save_regp
-    if b < 0xcc {
-        return op(SAVE_REG_PAIR, X, FIRST_X + n / 64 % 16, UNIT * (n % 64));
-    }
-    // save_regp_x
-    if b < 0xd0 {
-        return op(
-            SAVE_REG_PAIR_PREINDEXED,
-            X,
-            FIRST_X + n / 64 % 16,
-            UNIT * (n % 64) + UNIT,
-        );
-    }
-    // save_reg
-    if b < 0xd4 {
-        return op(SAVE_REG, X, FIRST_X + n / 64 % 16, UNIT * (n % 64));
-    }
-    // save_reg_x
-    if b < 0xd6 {
-        return op(
-            SAVE_REG_PREINDEXED,
-            X,
-            FIRST_X + n / 32 % 16,
-            UNIT * (n % 32) + UNIT,
-        );
-    }
-    save_lrpair(n)
 }
 
 // The codes that save d registers, and alloc_z.
-fn float_save(b: u32, n: u32) -> Operation
+#[tactic(auto, using(crate::specs::Index::save_fregp, crate::specs::Index::save_fregp_x, crate::specs::Index::save_freg, crate::specs::Index::save_freg_x, crate::specs::Index::alloc_z))]
+fn float_save(b: u32, n: u32) -> Op
     requires { (216 ≤ b) × (b < 224) }
     ensures { result ≡ meant (code_of b) n }
 {
-    // save_fregp
-    if b < 0xda {
-        return op(SAVE_REG_PAIR, D, FIRST_D + n / 64 % 8, UNIT * (n % 64));
+    let register = FIRST_D + n / 64 % 8;
+    let value = UNIT * (n % 64);
+    match b {
+        // save_fregp
+        ..=0xd9 => Op::SaveRegPair(D, register, value),
+        // save_fregp_x
+        ..=0xdb => Op::SaveRegPairPreindexed(D, register, value + UNIT),
+        // save_freg
+        ..=0xdd => Op::SaveReg(D, register, value),
+        // save_freg_x
+        0xde => Op::SaveRegPreindexed(D, FIRST_D + n / 32 % 8, UNIT * (n % 32) + UNIT),
+        // alloc_z
+        _ => Op::Other,
     }
-    // save_fregp_x
-    if b < 0xdc {
-        return op(
-            SAVE_REG_PAIR_PREINDEXED,
-            D,
-            FIRST_D + n / 64 % 8,
-            UNIT * (n % 64) + UNIT,
-        );
-    }
-    // save_freg
-    if b < 0xde {
-        return op(SAVE_REG, D, FIRST_D + n / 64 % 8, UNIT * (n % 64));
-    }
-    // save_freg_x
-    if b < 0xdf {
-        return op(
-            SAVE_REG_PREINDEXED,
-            D,
-            FIRST_D + n / 32 % 8,
-            UNIT * (n % 32) + UNIT,
-        );
-    }
-    // alloc_z
-    op(OTHER, 0, 0, 0)
 }
 
-fn two_bytes(b: u32, n: u32) -> Operation
+fn two_bytes(b: u32, n: u32) -> Op
     requires { (192 ≤ b) × (b < 224) }
     ensures { result ≡ meant (code_of b) n }
 {
@@ -232,148 +150,174 @@ fn two_bytes(b: u32, n: u32) -> Operation
 // ---- E7: save_any_reg, with second byte s and third byte t
 
 // The bytes of a unit: 16 for a pair, for a pre-indexed save and for q, else 8.
-fn any_reg_unit(p: u32, x: u32, f: u32) -> u32
-    ensures { result ≡ any_reg_unit p x f }
+fn any_reg_unit(pair: bool, pre_indexed: bool, letter: u32) -> u32
+    ensures { result ≡ any_reg_unit pair pre_indexed letter }
 {
-    if p == 1 {
-        return WIDE_UNIT;
+    if pair | pre_indexed | (letter == Q) {
+        WIDE_UNIT
+    } else {
+        UNIT
     }
-    if x == 1 {
-        return WIDE_UNIT;
-    }
-    if f == Q {
-        return WIDE_UNIT;
-    }
-    UNIT
 }
 
 // A unit more where pre-indexed.
-fn any_reg_offset(p: u32, x: u32, f: u32, o: u32) -> u32
-    requires { (x ≤ 1) × (o < 64) }
-    ensures { result ≡ any_reg_offset p x f o }
+fn any_reg_offset(pair: bool, pre_indexed: bool, letter: u32, units: u32) -> u32
+    requires { units < 64 }
+    ensures { result ≡ any_reg_offset pair pre_indexed letter units }
 {
-    any_reg_unit(p, x, f) * (o + x)
+    any_reg_unit(pair, pre_indexed, letter) * (units + u32::from(pre_indexed))
 }
 
-// Whether save_preg's register is one of P0 to P3.
-fn low_predicate(s: u32) -> bool
-    ensures { result ≡ eqb (s / 4 % 8) 4 }
-{
-    s / 4 % 8 == 4
-}
-
-// A scalable register, saved by save_zreg or save_preg, has no kind; P0 to P3 are reserved.
-fn scalable(s: u32) -> Operation
+// A scalable register, saved by save_zreg or save_preg, has no kind; P0 to P3 of save_preg are reserved.
+fn scalable(s: u32) -> Op
     ensures { result ≡ scalable_of s }
 {
-    if low_predicate(s) {
-        return op(UNDECODABLE, 0, 0, 0);
+    if s / 4 % 8 == 4 {
+        Op::Undecodable
+    } else {
+        Op::Other
     }
-    op(OTHER, 0, 0, 0)
 }
 
-fn any_reg(s: u32, t: u32) -> Operation
+fn any_save(pair: bool, pre_indexed: bool, letter: u32, register: u32, value: u32) -> Op
+    ensures { result ≡ save_of pair pre_indexed letter register value }
+{
+    match (pair, pre_indexed) {
+        (false, false) => Op::SaveReg(letter, register, value),
+        (false, true) => Op::SaveRegPreindexed(letter, register, value),
+        (true, false) => Op::SaveRegPair(letter, register, value),
+        (true, true) => Op::SaveRegPairPreindexed(letter, register, value),
+    }
+}
+
+#[tactic(auto, unfolding(crate::specs::UnwindCodes::any_reg))]
+fn any_reg(s: u32, t: u32) -> Op
     requires { (s < 256) × (t < 256) }
     ensures { result ≡ any_reg s t }
 {
     if 128 <= s {
-        return op(UNDECODABLE, 0, 0, 0);
+        return Op::Undecodable;
     }
-    let f = t / 64;
-    if f == 3 {
+    let letter = t / 64;
+    if letter == 3 {
         return scalable(s);
     }
-    let p = s / 64;
-    let x = s / 32 % 2;
-    op(
-        SAVE_REG + 2 * p + x,
-        f,
-        s % 32,
-        any_reg_offset(p, x, f, t % 64),
-    )
+    let pair = s / 64 == 1;
+    let pre_indexed = s / 32 % 2 == 1;
+    let value = any_reg_offset(pair, pre_indexed, letter, t % 64);
+    any_save(pair, pre_indexed, letter, s % 32, value)
 }
 
 // ---- E0 to FF, but for the numbers in alloc_l and save_any_reg
 
-fn no_number(b: u32) -> Operation
+// Here and in `Code::ends` the ranges are asked for first: a match asks for single bytes before, with which decoding takes some 5 in a hundred more
+// instructions.
+#[tactic(auto, using(crate::specs::Index::no_kind, crate::specs::Index::an_end, crate::specs::Index::save_next, crate::specs::Index::reserved, crate::specs::Index::pac_sign_lr, crate::specs::Index::reserved_last))]
+fn no_number(b: u32) -> Op
     requires { (225 ≤ b) × (b < 256) × (b ≢ 231) }
     ensures { (n : ℕ) → result ≡ meant (code_of b) n }
 {
     // set_fp, add_fp, nop
     if b < END_CODE {
-        return op(OTHER, 0, 0, 0);
+        return Op::Other;
     }
     // end, end_c
-    if b < SAVE_NEXT_CODE {
-        return op(END, 0, 0, 0);
+    if b < SAVE_NEXT {
+        return Op::End;
     }
-    if b == SAVE_NEXT_CODE {
-        return op(SAVE_NEXT, 0, 0, 0);
+    match b {
+        SAVE_NEXT => Op::SaveNext,
+        PAC_SIGN_LR => Op::Other,
+        _ => Op::Undecodable,
     }
-    if b == PAC_SIGN_LR {
-        return op(OTHER, 0, 0, 0);
-    }
-    op(UNDECODABLE, 0, 0, 0)
 }
 
-fn special(bytes: &[u8]) -> Operation
-    requires { (224 ≤ get_or bytes.now 0 0) × (0 < length bytes.now) × (size_at bytes.now ≤ length bytes.now) }
-    ensures { result ≡ operation_at bytes.now }
+// ---- a code
+
+// Whether it ends the list: an end, or one that is reserved or for a custom stack.
+#[tactic(auto, unfolding(arm64::specs::Arm64::words_of))]
+fn ends(op: Op) -> bool
+    ensures { result ≡ ends_of op }
 {
-    let b = u32::from(bytes[0]);
-    if b == ALLOC_L {
-        let size = u32::from_be_bytes([0, bytes[1], bytes[2], bytes[3]]);
-        return op(ALLOC_STACK, 0, 0, WIDE_UNIT * size);
-    }
-    if b == SAVE_ANY_REG {
-        return any_reg(u32::from(bytes[1]), u32::from(bytes[2]));
-    }
-    no_number(b)
+    matches!(op, Op::End | Op::Undecodable)
 }
 
-// The operation of the code that these bytes start with, all of whose bytes are there.
-pub(crate) fn operation_at(bytes: &[u8]) -> Operation
-    requires { (0 < length bytes.now) × (size_at bytes.now ≤ length bytes.now) }
-    ensures { result ≡ operation_at bytes.now }
-{
-    let b = u32::from(bytes[0]);
-    if b < ALLOC_M {
-        return one_byte(b);
-    }
-    if b < ALLOC_L {
-        return two_bytes(b, 256 * b + u32::from(bytes[1]));
-    }
-    special(bytes)
+// The bytes from a code on, all of which are there.
+#[derive(Clone, Copy)]
+pub(crate) struct Code<'a> {
+    bytes: &'a [u8],
+    ghost some: { 0 < length bytes.now },
+    ghost whole: { size_at bytes.now ≤ length bytes.now },
 }
 
-// Whether save_any_reg ends the list: where it is reserved.
-fn any_reg_ends(s: u32, t: u32) -> bool
-    requires { (s < 256) × (t < 256) }
-    ensures { result ≡ ends_of (any_reg s t) }
-{
-    if 128 <= s {
-        return true;
+impl<'a> Code<'a> {
+    // None where the bytes end inside of it.
+    pub(crate) fn read(bytes: &'a [u8]) -> Option<Code<'a>>
+        requires { 0 < length bytes.now }
+        ensures { MatchOption result (whole bytes.now ≡ false) (λ c. (c.bytes.now ≡ bytes.now) × (whole bytes.now ≡ true)) }
+    {
+        if bytes.len() < size_of(u32::from(bytes[0])) {
+            return None;
+        }
+        Some(Code { bytes })
     }
-    if t / 64 == 3 {
-        return low_predicate(s);
-    }
-    false
-}
 
-// Whether the code that these bytes start with ends the list: an end, or one that is reserved or for a custom stack.
-pub(crate) fn ends(bytes: &[u8]) -> bool
-    requires { (0 < length bytes.now) × (size_at bytes.now ≤ length bytes.now) }
-    ensures { result ≡ ends_of (operation_at bytes.now) }
-{
-    let b = u32::from(bytes[0]);
-    if b < END_CODE {
-        return false;
+    // The same where they are known to have all of it.
+    pub(crate) fn first(bytes: &'a [u8]) -> Code<'a>
+        requires { (0 < length bytes.now) × (size_at bytes.now ≤ length bytes.now) }
+        ensures { result.bytes.now ≡ bytes.now }
+    {
+        Code { bytes }
     }
-    if b == SAVE_NEXT_CODE {
-        return false;
+
+    fn special(self) -> Op
+        requires { 224 ≤ get_or self.bytes.now 0 0 }
+        ensures { result ≡ operation_at self.entry.bytes.now }
+    {
+        let bytes = self.bytes;
+        let b = u32::from(bytes[0]);
+        if b == ALLOC_L {
+            let size = u32::from_be_bytes([0, bytes[1], bytes[2], bytes[3]]);
+            return Op::AllocStack(WIDE_UNIT * size);
+        }
+        if b == SAVE_ANY_REG {
+            return any_reg(u32::from(bytes[1]), u32::from(bytes[2]));
+        }
+        no_number(b)
     }
-    if b == SAVE_ANY_REG {
-        return any_reg_ends(u32::from(bytes[1]), u32::from(bytes[2]));
+
+    pub(crate) fn operation(self) -> Op
+        ensures { result ≡ operation_at self.entry.bytes.now }
+    {
+        let b = u32::from(self.bytes[0]);
+        if b < ALLOC_M {
+            return one_byte(b);
+        }
+        if b < ALLOC_L {
+            return two_bytes(b, 256 * b + u32::from(self.bytes[1]));
+        }
+        self.special()
     }
-    b != PAC_SIGN_LR
+
+    // What stands behind it.
+    pub(crate) fn rest(self) -> &'a [u8]
+        ensures { result.now ≡ drop (size_at self.entry.bytes.now) self.entry.bytes.now }
+    {
+        &self.bytes[size_of(u32::from(self.bytes[0]))..]
+    }
+
+    // Whether it ends the list, by its first byte where that tells: asked of its operation, decoding took 434.5 instructions a function for 329.5.
+    pub(crate) fn ends(self) -> bool
+        ensures { result ≡ ends_of (operation_at self.entry.bytes.now) }
+    {
+        let bytes = self.bytes;
+        let b = u32::from(bytes[0]);
+        if b < END_CODE {
+            return false;
+        }
+        if b == SAVE_ANY_REG {
+            return ends(any_reg(u32::from(bytes[1]), u32::from(bytes[2])));
+        }
+        (b != SAVE_NEXT) & (b != PAC_SIGN_LR)
+    }
 }

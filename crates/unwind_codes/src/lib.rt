@@ -19,15 +19,6 @@ use fill::put_words;
 use list::Codes;
 use refusal::Refusal;
 
-// What an unwind code becomes: the words of an operation.
-#[derive(Clone, Copy)]
-pub struct Operation {
-    pub kind: u32,
-    pub letter: u32,
-    pub register: u32,
-    pub value: u32,
-}
-
 // The words of a body before its operations, and of an operation.
 const HEAD: usize = 3;
 

@@ -5,7 +5,7 @@ ghost use Rattle.text.specs.Tests.{all};
 ghost use Rattle.refusal.specs.Refusal.{number};
 ghost use Rattle.unwind_codes.specs.UnwindCodes.{whole, list, op_words, arm_number};
 
-use crate::code::{ends, operation_at, size_at};
+use crate::code::Code;
 use fill::put_words;
 use refusal::Refusal;
 
@@ -30,16 +30,14 @@ impl<'a> Codes<'a> {
     {
         let mut rest = bytes;
         let mut count = 0;
+        // A while, since each turn is as long as the bytes say; an iterator over these would give a result at each, and hold just `rest`.
         while !rest.is_empty() {
-            let size = size_at(rest);
-            if rest.len() < size {
-                return Err(Refusal::Code);
-            }
+            let code = Code::read(rest).ok_or(Refusal::Code)?;
             count += 1;
-            if ends(rest) {
-                return Codes::counted(bytes, count);
+            if code.ends() {
+                break;
             }
-            rest = &rest[size..];
+            rest = code.rest();
         }
         Codes::counted(bytes, count)
     }
@@ -65,12 +63,13 @@ impl<'a> Codes<'a> {
     {
         let mut p = at;
         let mut rest = self.bytes;
+        // By their number: which one ends the list was asked when they were counted.
         for _ in 0..self.count {
+            let code = Code::first(rest);
             // Both before the words are put, so that no byte is read twice.
-            let op = operation_at(rest);
-            let size = size_at(rest);
-            p = put_words(out, p, &[op.kind, op.letter, op.register, op.value]);
-            rest = &rest[size..];
+            let op = code.operation();
+            rest = code.rest();
+            p = put_words(out, p, &op.words());
         }
         p
     }
