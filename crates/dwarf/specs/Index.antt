@@ -1,19 +1,58 @@
--- What the layout gives the code's loops, and that comparing as a row goes is comparing with what was seen before it.
-use Rattle.std.specs.Prelude.{◌≡◌, refl, ℕ, zero, suc, ◌+◌, ◌*◌, ◌≤◌, Bool, true, false, not, cond, ◌&&◌, ◌||◌, List, [], ◌∷◌, ◌++◌, length, T, leb, eqb}
+-- One step of each definition over the words, what the layout gives, and that comparing as a row goes is comparing with what was seen before it.
+use Rattle.std.specs.Prelude.{◌≡◌, refl, ℕ, zero, suc, ◌+◌, ◌-◌, ◌*◌, ◌≤◌, ◌<◌, Bool, true, false, not, cond, ◌&&◌, ◌||◌, List, [], ◌∷◌, ◌++◌, length, T, ltb, leb, eqb, Ok}
 use Rattle.std.proofs.Common.{sym, ap, arith, length-append, leb→le, eqb→eq, le-leb, ne_eqb}
 use Rattle.std.proofs.lemmas.Bool.{eqb-false}
-use Rattle.text.specs.Tests.{is_false, and_l, and_r, both, all}
+use Rattle.text.specs.Tests.{is_false, and_l, and_r, one_less, both, all}
+use Rattle.entry.specs.declared.Fate.TheVariants.{Write}
+use Rattle.refusal.specs.declared.Refusal.TheVariants.{Reach}
+use Rattle.entry.specs.Entry.{word}
+use Rattle.entry.specs.Entry.Laws.{only_written}
 use Rattle.dwarf.specs.declared.RegisterRule.{RegisterRule}
-use Rattle.dwarf.specs.Dwarf.{Row, rules_from, rule_count, next_row, row_at, rows_from, row_count, rows, registers, member, once, distinct, rules_fit, cfa_fits}
-use Rattle.dwarf.specs.Dwarf.{row_fits, rows_fit, rules_of, head_fits, dwarf_layout}
+use Rattle.dwarf.specs.Dwarf.{Row, rule_at, rules_from, rule_count, next_row, row_at, rows_from, row_count, rows, wide, first_start}
+use Rattle.dwarf.specs.Dwarf.{registers, member, once, distinct, rule_fits, rules_fit, cfa_fits}
+use Rattle.dwarf.specs.Dwarf.{row_fits, rows_fit, rules_of, head_fits, dwarf_layout, dwarf_skipped, dwarf_reach, dwarf_judged}
 use Rattle.dwarf.specs.Dwarf.{rule_bytes, Seen, seen, differs, remember, seen_after, ran_rules, ran_moved, nothing_seen}
 use Rattle.dwarf.specs.Cache.{newly, fresh}
 
+-- ---- steps
+
+pub rules_step : (ws : List ℕ) (n a : ℕ) → 0 < n → rules_from ws n a ≡ rule_at ws a ∷ rules_from ws (n - 1) (a + 4)
+unfolding rules_from
+rules_step ws n a h = ap (λ (k : ℕ). rules_from ws k a) (one_less n h)
+
+pub rows_step : (ws : List ℕ) (m a : ℕ) → 0 < m → rows_from ws m a ≡ row_at ws a ∷ rows_from ws (m - 1) (next_row ws a)
+unfolding rows_from
+rows_step ws m a h = ap (λ (k : ℕ). rows_from ws k a) (one_less m h)
+
+pub rules_fit_step : (ws : List ℕ) (n a : ℕ) → 0 < n → rules_fit ws n a ≡ rule_fits ws a && rules_fit ws (n - 1) (a + 4)
+unfolding rules_fit
+rules_fit_step ws n a h = ap (λ (k : ℕ). rules_fit ws k a) (one_less n h)
+
+pub rows_fit_step : (ws : List ℕ) (m a : ℕ) → 0 < m → rows_fit ws m a ≡ row_fits ws a && rows_fit ws (m - 1) (next_row ws a)
+unfolding rows_fit
+rows_fit_step ws m a h = ap (λ (k : ℕ). rows_fit ws k a) (one_less m h)
+
 -- ---- what the layout gives
+
+pub row_few : (ws : List ℕ) (a : ℕ) → T (row_fits ws a) → rule_count ws a ≤ 64
+unfolding row_fits
+row_few ws a h = leb→le (rule_count ws a) 64 (and_r (cfa_fits ws a) _ (and_l (cfa_fits ws a && leb (rule_count ws a) 64) _ h))
 
 pub row_once_lem : (ws : List ℕ) (a : ℕ) → T (row_fits ws a) → T (once (registers (row_at ws a).rules))
 unfolding row_fits
 row_once_lem ws a h = and_r (rules_fit ws (rule_count ws a) (a + 9)) _ (and_r (cfa_fits ws a && leb (rule_count ws a) 64) _ h)
+
+-- rows have at most 265 words
+pub row_bound : (ws : List ℕ) (a m : ℕ) → T (row_fits ws a) → 0 < m → a + 265 * m ≤ 271367 → next_row ws a + 265 * (m - 1) ≤ 271367
+row_bound ws a m h k b = omega (arith, row_few ws a h)
+
+pub head_few : (ws : List ℕ) → T (head_fits ws) → row_count ws ≤ 1024
+unfolding head_fits
+head_few ws h = leb→le (row_count ws) 1024 (and_r (ltb (word ws 5) 65536) _ (and_r (leb (word ws 0) 10) _ h))
+
+pub layout_few : (ws : List ℕ) → T (dwarf_layout ws) → row_count ws ≤ 1024
+unfolding dwarf_layout
+layout_few ws h = head_few ws (and_l (head_fits ws) _ h)
 
 pub layout_rows : (ws : List ℕ) → T (dwarf_layout ws) → T (rows_fit ws (row_count ws) 7)
 unfolding dwarf_layout
@@ -55,8 +94,14 @@ distinct_few met (x ∷ xs) = go (member x.register met) (distinct_few (x.regist
     go true h = omega arith
     go false h = omega arith
 
-pub few_words : (ws : List ℕ) (m : ℕ) → T (rows_fit ws m 0) → length ws ≤ 256 + 9 * m → true ≡ leb (distinct [] (registers (rules_of (rows_from ws m 0)))) 64
-few_words ws m h k = sym (le-leb (distinct [] (registers (rules_of (rows_from ws m 0)))) 64
+pub few_words : (ws : List ℕ) → T (rows_fit ws (row_count ws) 7) → length ws ≤ 263 + 9 * row_count ws → true ≡ leb (distinct [] (registers (rules_of (rows ws)))) 64
+unfolding rows
+few_words ws h k =
+    sym (le-leb (distinct [] (registers (rules_of (rows ws)))) 64 (omega (arith, rows_words ws (row_count ws) 7 h, distinct_few [] (rules_of (rows_from ws (row_count ws) 7)))))
+
+-- and by the words behind the first seven
+pub few_behind : (ws : List ℕ) (m : ℕ) → T (rows_fit ws m 0) → length ws ≤ 256 + 9 * m → true ≡ leb (distinct [] (registers (rules_of (rows_from ws m 0)))) 64
+few_behind ws m h k = sym (le-leb (distinct [] (registers (rules_of (rows_from ws m 0)))) 64
     (omega (arith, rows_words ws m 0 h, distinct_few [] (rules_of (rows_from ws m 0)))))
 
 -- ---- registers met
@@ -127,6 +172,19 @@ unfolding ran_rules row_rules
 ran_row_lem f ra c [] h = refl
 ran_row_lem f ra c (x ∷ xs) h = rw (ran_row_lem f ra (remember c x) xs (once_rest x xs h), row_free f ra c x xs (once_free x xs h))
 
+-- they take as many places
+fresh_same : (x : RegisterRule) (c d : ℕ → Seen) (xs : List RegisterRule) → ((q : ℕ) → eqb x.register q ≡ false → c q ≡ d q)
+    → member x.register (registers xs) ≡ false → fresh c xs ≡ fresh d xs
+unfolding fresh member registers
+fresh_same x c d [] e h = refl
+fresh_same x c d (y ∷ ys) e h = rw (
+  e y.register (apart y.register x.register (or_l (eqb y.register x.register) _ h)),
+  fresh_same x (remember c y) (remember d y) ys (λ q k. ap (λ (s : Seen). cond (eqb y.register q) (seen y.kind y.value) s) (e q k)) (or_r (eqb y.register x.register) _ h),
+)
+
+pub fresh_free : (c : ℕ → Seen) (x : RegisterRule) (xs : List RegisterRule) → T (once (registers (x ∷ xs))) → fresh (remember c x) xs ≡ fresh c xs
+fresh_free c x xs h = fresh_same x (remember c x) c xs (λ q k. rw k) (once_free x xs h)
+
 -- whether the return register's rule changes, against what was seen before the row
 unfoldable pub ra_moves : ℕ → (ℕ → Seen) → List RegisterRule → Bool
 ra_moves ra c [] = false
@@ -141,3 +199,19 @@ pub ran_ra : (ra : ℕ) (c : ℕ → Seen) (xs : List RegisterRule) → T (once 
 unfolding ran_moved ra_moves
 ran_ra ra c [] h = refl
 ran_ra ra c (x ∷ xs) h = rw (ran_ra ra (remember c x) xs (once_rest x xs h), ra_free ra c x xs (once_free x xs h))
+
+-- ---- an entry that is written is laid out
+
+pub written : (ws : List ℕ) → dwarf_judged ws ≡ Ok Write → T (dwarf_layout ws)
+unfolding dwarf_judged
+written ws h = let w = only_written (dwarf_layout ws) (dwarf_skipped ws) (dwarf_reach ws) Reach h in w.0
+
+-- ---- the first row's start
+
+pub first_none : (ws : List ℕ) → row_count ws ≡ 0 → 0 ≡ first_start (rows ws)
+unfolding rows rows_from first_start
+first_none ws e = rw e
+
+pub first_some : (ws : List ℕ) → 0 < row_count ws → wide ws 7 ≡ first_start (rows ws)
+unfolding rows first_start
+first_some ws h = rw (rows_step ws (row_count ws) 7 h)

@@ -1,10 +1,10 @@
 -- `registers_fit`: registers met and those left to meet are those of the body.
-use Rattle.dwarf.specs.Index.{few_words}
+use Rattle.dwarf.specs.Index.{few_behind}
 use Rattle.dwarf.proofs.Meeting.{met_over, met_turn, met_done}
 use Rattle.dwarf.proofs.judge.registers_fit.Goals as goal
 
 pub returns-then-rows : goal.returns-then-rows
-returns-then-rows c = let r = c.args.rows in few_words r.words.now r.left r.fit c.if-rows.true
+returns-then-rows c = let r = c.args.rows in few_behind r.words.now r.left r.fit c.if-rows.true
 
 pub returns-then-not-meet_rules : goal.returns-then-not-meet_rules
 returns-then-not-meet_rules c = met_over c.loop-row.invariant c.in-Some.ensures.steps c.if-not-meet_rules.ensures
