@@ -1,2 +1,4 @@
 pub mod Tests
+pub mod Bits
+pub mod Packed
 pub mod Text
