@@ -7,7 +7,7 @@ ghost use Rattle.digits.specs.Digits.{digit, digits, hex, decimal, signed};
 
 use text::put_byte;
 
-// The byte of a digit: '0' to '9', then 'a' to 'f'.
+// The byte of a digit: '0' to '9', then 'a' to 'f'. Not char::from_digit, which gives an option of a char.
 #[tactic(auto, unfolding(crate::specs::Digits::digit))]
 pub fn digit_of(n: u64) -> u8
     requires { n < 16 }
@@ -27,7 +27,7 @@ fn put_digits<const BASE: u64>(out: &mut [u8], at: usize, x: u64, n: usize) -> u
 {
     if at <= out.len() && n <= out.len() - at {
         let mut v = x;
-        // By index: of an iter_mut turned round no proof knows what it stored.
+        // By index: of iter_mut().rev() no proof knows what it stored.
         for k in (0..n).rev() {
             out[at + k] = digit_of(v % BASE);
             v /= BASE;

@@ -5,14 +5,14 @@ ghost use Rattle.std.specs.Prelude.{◌≡◌, get_or};
 
 use lines::Rva;
 
-// What becomes of an entry that is not refused.
+// What becomes of an entry that is not refused. x64 and ARM64 have no need of it: what is to be written is there, or it is not.
 #[derive(Clone, Copy, PartialEq, Eq)]
 pub enum Fate {
     Skip,
     Write,
 }
 
-// The last PDB entry that was not skipped: the next one that equals it in these is skipped.
+// The last PDB entry that was not skipped: the next one that equals it in these is skipped. The type is a word of the body, and any number is one.
 #[derive(Clone, Copy, PartialEq, Eq)]
 pub struct Last {
     pub ty: u32,

@@ -11,7 +11,7 @@ use text::{put_byte, put_bytes};
 #[derive(Clone, Copy, PartialEq, Eq)]
 pub struct Rva(pub u32);
 
-// The numbers of a STACK WIN line, in its order.
+// The numbers of a STACK WIN line, in its order; `ty` is one of them, and printed as it is.
 #[derive(Clone, Copy)]
 pub struct StackInfo {
     pub ty: u32,
@@ -35,7 +35,7 @@ pub fn put_init(out: &mut [u8], at: usize, address: u64, size: u64) -> usize
     put_hex(out, p, size)
 }
 
-// The beginning of a later line; `six` for the six spaces of ARM64 records, a flag of the line as in its definition.
+// The beginning of a later line; `six` for the six spaces of ARM64 records: an enum of the two would be made at a caller only to be matched here.
 pub fn put_later(out: &mut [u8], at: usize, six: bool, address: u64) -> usize
     ensures { Put out.old at (later_text six address) out.new result }
 {

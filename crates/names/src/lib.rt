@@ -1,5 +1,6 @@
-// Names of registers as records write them: in fixed bytes with a length, and put into a slice. A family or a letter and a register stay two numbers,
-// as the words of a body have them; the calls for each of the two numberings, DWARF's and PE's, stay two, as their tables are.
+// Names of registers as records write them: in fixed bytes with a length, and put into a slice. A family or a letter and a register stay two numbers:
+// as a struct they would be put together at each call to be taken apart in it. The calls for each of the two numberings, DWARF's and PE's, are public
+// and stay two, as their tables are.
 #![tactic(auto)]
 
 ghost use Rattle.std.specs.Prelude.{◌≡◌, [], ◌∷◌, ◌<◌, take};
@@ -61,7 +62,7 @@ fn letter_byte(letter: u32) -> u8
     }
 }
 
-// A register of ARM64 unwind codes, by its letter and number.
+// A register of ARM64 unwind codes, by its letter and number: below 1,000, so that the name has its eight bytes.
 pub fn arm64_register_name(letter: u32, register: u32) -> Name
     requires { register < 1000 }
     ensures { name_text result ≡ arm64_name letter register }
@@ -71,15 +72,11 @@ pub fn arm64_register_name(letter: u32, register: u32) -> Name
     Name { bytes, len }
 }
 
-// Byte by byte, as put_front would need the name's bytes as a slice and its length, which is no plainer.
+#[tactic(auto, unfolding(crate::specs::Names::name_text))]
 pub fn put_name(out: &mut [u8], at: usize, name: Name) -> usize
     ensures { Put out.old at (name_text name) out.new result }
 {
-    let mut p = at;
-    for b in name.bytes.iter().take(name.len) {
-        p = put_byte(out, p, *b);
-    }
-    p
+    put_front(out, at, &name.bytes, name.len)
 }
 
 pub fn put_cfi_name(out: &mut [u8], at: usize, family: u32, register: u32) -> usize

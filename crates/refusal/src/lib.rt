@@ -46,8 +46,7 @@ impl Refusal {
 // A refusal is shown as its number.
 impl fmt::Display for Refusal {
     fn fmt<W: fmt::Write>(&self, f: &mut fmt::Formatter<W>) -> fmt::Result {
-        let n = self.number();
-        write!(f, "{n}")
+        write!(f, "{}", self.number())
     }
 }
 

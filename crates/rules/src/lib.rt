@@ -19,7 +19,7 @@ pub enum Reg {
     Sp,
     // x64 unwind codes: the register's number
     Pe(u32),
-    // DWARF rows: CPU family and register number, as the body has them; a family that is none has no names
+    // DWARF rows: CPU family and register number, as the body has them; any number is one, and a family that is none has no names
     Cfi(u32, u32),
     // ARM64 unwind codes: letter and number, as the body has them; every word is a letter, so that a narrower type would ask more of callers
     Arm64(u32, u32),
@@ -120,7 +120,7 @@ pub fn put_rule(out: &mut [u8], at: usize, rule: Rule) -> usize
     put_form(out, p, rule.form)
 }
 
-// a - b, as the number of a rule
+// a - b, for the number of a rule
 pub fn difference(a: u64, b: u64) -> i64
     requires { (a < 2 ^ 63) × (b < 2 ^ 63) }
     ensures { result ≡ sub_ℕ a b }

@@ -1,7 +1,7 @@
-// Text put into a lent slice. And a slice cleared.
+// Text put into a lent slice; a slice cleared.
 // Each writer takes the slice and a place and returns the place after its text. What does not fit is not stored, and the place moves on all the same,
-// so that the same function measures (into an empty part) and writes. The two stay two parameters: a struct that holds the lent slice
-// does not tell whoever lent it what the slice holds afterwards.
+// so that the same function measures (into an empty part) and writes. The two stay two parameters, here and in the crates above:
+// tried as a struct that holds the lent slice, whose lender then knows nothing of what the slice holds.
 #![tactic(auto)]
 
 ghost use Rattle.std.specs.Prelude.{◌≡◌, [], ◌∷◌, length, take, replicate};
@@ -10,6 +10,7 @@ ghost use Rattle.text.specs.Text.{Put};
 pub fn put_byte(out: &mut [u8], at: usize, b: u8) -> usize
     ensures { Put out.old at (b ∷ []) out.new result }
 {
+    // By index: of a slice's get_mut no proof knows what it stored.
     if at < out.len() {
         out[at] = b;
         return at + 1;
@@ -22,9 +23,9 @@ pub fn put_bytes(out: &mut [u8], at: usize, src: &[u8]) -> usize
 {
     let n = src.len();
     if at <= out.len() && n <= out.len() - at {
-        // By index: copy_from_slice would make the archive need memmove, and of a zip over iter_mut no proof knows what it stored.
-        for i in 0..n {
-            out[at + i] = src[i];
+        // Not copy_from_slice, which makes the archive need memmove; nor a zip over iter_mut, of which no proof knows what it stored.
+        for (i, b) in src.iter().enumerate() {
+            out[at + i] = *b;
         }
         return at + n;
     }
@@ -42,7 +43,7 @@ fn put_bytes_fitting(out: &mut [u8], at: usize, src: &[u8]) -> usize
     p
 }
 
-// The first `size` bytes of `src`, or all where it has fewer.
+// The first `size` bytes of `src`, or all where it has fewer: two parameters, so that no caller has to show that it has so many.
 pub fn put_front(out: &mut [u8], at: usize, src: &[u8], size: usize) -> usize
     ensures { Put out.old at (take size src.now) out.new result }
 {
