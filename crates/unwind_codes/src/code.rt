@@ -210,8 +210,6 @@ fn any_reg(s: u32, t: u32) -> Op
 
 // ---- E0 to FF, but for the numbers in alloc_l and save_any_reg
 
-// Here and in `Code::ends` the ranges are asked for first: a match asks for single bytes before, with which decoding takes some 5 in a hundred more
-// instructions.
 #[tactic(auto, using(crate::specs::Index::no_kind, crate::specs::Index::an_end, crate::specs::Index::save_next, crate::specs::Index::reserved, crate::specs::Index::pac_sign_lr, crate::specs::Index::reserved_last))]
 fn no_number(b: u32) -> Op
     requires { (225 ≤ b) × (b < 256) × (b ≢ 231) }
