@@ -53,7 +53,7 @@ pub(crate) const REGISTER: u32 = 3;
 
 pub(crate) const OTHER: u32 = 4;
 
-// The kinds of a CFA: register + offset, or an expression.
+// The kinds of a CFA: register + offset, or an expression; constants, since a word can hold any other number, and what is read of it is a CfaRule.
 pub(crate) const CFA_REGISTER: u32 = 0;
 
 pub(crate) const CFA_EXPRESSION: u32 = 1;
@@ -217,10 +217,7 @@ impl<'a> Body<'a> {
         ensures { result ≡ first_start (rows_of self.entry.words.now) }
     {
         let mut rows = self.rows;
-        match rows.next() {
-            Some(row) => row.start(),
-            None => 0,
-        }
+        rows.next().map_or(0, RowWords::start)
     }
 
     // The last row's end.
@@ -228,11 +225,7 @@ impl<'a> Body<'a> {
     pub(crate) fn last_end(self) -> u64
         ensures { result ≡ last_end 0 (rows_of self.entry.words.now) }
     {
-        let mut end = 0;
-        for row in self.rows {
-            end = row.end();
-        }
-        end
+        self.rows.last().map_or(0, RowWords::end)
     }
 
     #[tactic(auto, unfolding(crate::specs::Dwarf::fde_of))]

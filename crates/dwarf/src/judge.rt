@@ -8,7 +8,7 @@ ghost use Rattle.dwarf.specs.Slices.{rules_in, fits_in, names_in, row_fits_in, r
 
 use crate::body::{
     ALL_ONES, Body, CFA_EXPRESSION, CFA_REGISTER, HEAD_WORDS, INITIAL_ADDRESS_AT, OTHER, REGISTER,
-    REGISTER_VALUES, ROW_WORDS, RULE_WORDS, RowHead, RowWords, Rows, RuleWords, word64,
+    REGISTER_VALUES, ROW_WORDS, RULE_WORDS, RowHead, RowWords, Rows, RuleWords, SAME, word64,
 };
 use crate::{RegisterRule, Registers};
 use entry::Fate;
@@ -32,16 +32,17 @@ const REGISTERS: u32 = 65536;
 fn kind_fits(kind: u32, value: u64) -> bool
     ensures { result ≡ cond (eqb kind 3) (ltb value 65536) (leb kind 4) }
 {
-    if kind == REGISTER {
-        return value < REGISTER_VALUES;
+    match kind {
+        REGISTER => value < REGISTER_VALUES,
+        SAME..=OTHER => true,
+        _ => false,
     }
-    kind <= OTHER
 }
 
 fn rule_fits(rule: RegisterRule) -> bool
     ensures { result ≡ fits rule }
 {
-    (rule.register < REGISTERS) & kind_fits(rule.kind, rule.value)
+    rule.register < REGISTERS && kind_fits(rule.kind, rule.value)
 }
 
 fn rules_fit(rules: &[RuleWords]) -> bool
@@ -214,7 +215,7 @@ impl<'a> Body<'a> {
         ensures { result ≡ any_below first load (rows self.entry.words.now) }
     {
         let mut rows = self.rows;
-        rows.any(|row| (row.start() != first) & (row.start() < load))
+        rows.any(|row| row.start() != first && row.start() < load)
     }
 
     // Refusal 6 does not apply: no row ends before the first start or starts below load.

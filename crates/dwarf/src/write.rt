@@ -11,9 +11,7 @@ ghost use Rattle.dwarf.specs.Dwarf.{ran_row, ran_rules, ran_rows, dwarf_text};
 ghost use Rattle.dwarf.specs.Cache.{lookup, cfa_if, cfa_of, newly, fresh, Forms, formatted, Remembers, After};
 ghost use Rattle.dwarf.specs.Slices.{rules_in, row_is, new_in, moved_in};
 
-use crate::body::{
-    Body, OFFSET, REGISTER, REGISTER_VALUES, RowWords, RuleWords, SAME, VALUE_OFFSET,
-};
+use crate::body::{Body, OFFSET, REGISTER, RowWords, RuleWords, SAME, VALUE_OFFSET};
 use crate::{CfaRule, Fde, Placed, RegisterRule, RowState, RuleCache};
 use lines::{put_init, put_later};
 use names::{cfi_register_name, has_cfi_name};
@@ -107,10 +105,7 @@ impl RuleCache {
 fn register_form(family: u32, register: u32) -> Option<Form>
     ensures { Forms (cfi_name family register) result }
 {
-    if has_cfi_name(family, register) {
-        return Some(Form::Register(Reg::Cfi(family, register)));
-    }
-    None
+    has_cfi_name(family, register).then(|| Form::Register(Reg::Cfi(family, register)))
 }
 
 // The value is a register; the tables have none past 65,535.
@@ -118,10 +113,8 @@ fn register_form(family: u32, register: u32) -> Option<Form>
 fn value_form(family: u32, value: u64) -> Option<Form>
     ensures { Forms (cfi_name family value) result }
 {
-    if value < REGISTER_VALUES {
-        return register_form(family, value as u32);
-    }
-    None
+    let register = u32::try_from(value).ok()?;
+    register_form(family, register)
 }
 
 #[tactic(auto, using(crate::proofs::Ints::cast_is), unfolding(crate::specs::Dwarf::form_bytes, crate::specs::Cache::formed, lines::specs::Lines::form_text, rules::specs::Rules::form_of, text::specs::Tests::any))]
@@ -147,11 +140,10 @@ fn format_rule(fde: Fde, rule: RegisterRule) -> Option<Rule>
         let name = ra_name();
         return Some(Rule { name, form });
     }
-    if has_cfi_name(fde.family, rule.register) {
+    has_cfi_name(fde.family, rule.register).then(|| {
         let name = cfi_register_name(fde.family, rule.register);
-        return Some(Rule { name, form });
-    }
-    None
+        Rule { name, form }
+    })
 }
 
 // " .cfa: R N +"; an expression writes nothing.
@@ -162,13 +154,12 @@ fn format_cfa(family: u32, cfa: CfaRule) -> Option<Rule>
     let CfaRule::RegisterPlus(register, offset) = cfa else {
         return None;
     };
-    if !has_cfi_name(family, register) {
-        return None;
-    }
-    let reg = Reg::Cfi(family, register);
-    let form = Form::RegisterPlus(reg, offset.cast_signed());
-    let name = cfa_name();
-    Some(Rule { name, form })
+    has_cfi_name(family, register).then(|| {
+        let reg = Reg::Cfi(family, register);
+        let form = Form::RegisterPlus(reg, offset.cast_signed());
+        let name = cfa_name();
+        Rule { name, form }
+    })
 }
 
 // Where the return address is in a register, families 3 to 9: " .ra: Q".
@@ -176,13 +167,12 @@ fn format_cfa(family: u32, cfa: CfaRule) -> Option<Rule>
 fn format_default(fde: Fde) -> Option<Rule>
     ensures { formatted result ≡ ra_bytes fde.family fde.ra }
 {
-    let kept = (FIRST_IN_REGISTER <= fde.family) & (fde.family <= LAST_IN_REGISTER);
-    if kept & has_cfi_name(fde.family, fde.ra) {
+    let kept = (FIRST_IN_REGISTER..=LAST_IN_REGISTER).contains(&fde.family);
+    (kept && has_cfi_name(fde.family, fde.ra)).then(|| {
         let name = ra_name();
         let form = Form::Register(Reg::Cfi(fde.family, fde.ra));
-        return Some(Rule { name, form });
-    }
-    None
+        Rule { name, form }
+    })
 }
 
 // The CFA's rule, where it differs from the one last seen.
@@ -313,13 +303,14 @@ fn put_row(out: &mut [u8], at: usize, row: RowWords, fde: Fde, mut state: RowSta
     ensures writes { Put out.old at (ran_row fde (cfa_of state) (lookup state.rules) (row_is row.entry)) out.new result.at }
     ensures goes { After state (row_is row.entry) result.state }
 {
-    let cfa = new_cfa(fde.family, row.cfa(), state.cfa);
-    state.cfa = Some(row.cfa());
-    if cfa.is_none() && !any_new(row.rules, fde, &state.rules) {
+    let cfa = row.cfa();
+    let new = new_cfa(fde.family, cfa, state.cfa);
+    state.cfa = Some(cfa);
+    if new.is_none() && !any_new(row.rules, fde, &state.rules) {
         state.rules.remember_all(row.rules);
         return Placed { at, state };
     }
-    let at = put_line(out, at, row, fde, cfa, &mut state.rules);
+    let at = put_line(out, at, row, fde, new, &mut state.rules);
     Placed { at, state }
 }
 
