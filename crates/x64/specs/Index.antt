@@ -3,7 +3,7 @@ use Rattle.std.specs.Prelude.{◌≡◌, refl, ℕ, zero, suc, ◌+◌, ◌-◌,
 use Rattle.std.specs.Prelude.{Option, None, Some, Ok, Err}
 use Rattle.std.specs.List.{list_all, list_any}
 use Rattle.std.specs.Simd.{first_chunks}
-use Rattle.std.proofs.Common.{sym, ap, ◌∙◌, add-one, arith, le-leb, lt-ltb, le-ltb, ltb→lt, leb→le, ne_eqb}
+use Rattle.std.proofs.Common.{sym, ap, ◌∙◌, add-one, add_assoc, arith, le-leb, lt-ltb, le-ltb, ltb→lt, leb→le, ne_eqb}
 use Rattle.std.proofs.Math.Bool.{and-false}
 use Rattle.std.proofs.Math.Decide.{dec_lt}
 use Rattle.std.proofs.lemmas.Bool.Decides.{nat_tests}
@@ -23,7 +23,7 @@ use Rattle.x64.specs.declared.Op.{Op}
 use Rattle.x64.specs.declared.Op.TheVariants.{PushNonVolatile, Alloc, SaveRsp, SaveFp, SetFpRegister, PushMachineFrame, Other, Undecodable}
 use Rattle.entry.specs.Entry.{word}
 use Rattle.entry.specs.Entry.Laws.{reached}
-use Rattle.x64.specs.X64.{base_at, op_of, stored, infos, in_order, info_count, chain, growth_of, value_of, op_fits, ops_fit, info_fits}
+use Rattle.x64.specs.X64.{base_at, op_of, stored, infos, in_order, info_count, chain, growth_of, value_of, run, op_fits, ops_fit, info_fits}
 use Rattle.x64.specs.X64.{infos_fit, x64_layout, undecodable_ops, undecodable_infos, printed, in_reach, set_count, x64_reach, x64_skipped, x64_judged, saved_text, framed_text, cfa_text}
 
 -- ---- infos and operations as slices
@@ -53,6 +53,24 @@ info_from ws a (suc k) = info_from ws (next_info ws a) k
 -- where info k starts, counted from 0
 abbrev pub info_at : List ℕ → ℕ → ℕ
 info_at ws k = info_from ws 4 k
+
+-- the operation whose words start at i
+unfoldable pub op_at : List ℕ → Base → ℕ → Op
+op_at ws b i = op_of b (word ws i) (word ws (i + 1)) (word ws (i + 2))
+
+-- n operations stored from word a on, last to first
+unfoldable pub ops_run : List ℕ → Base → ℕ → ℕ → List Op
+ops_run ws b a zero = []
+ops_run ws b a (suc n) = op_at ws b (a + 3 * n) ∷ ops_run ws b a n
+
+-- those of the info at word a
+abbrev pub info_ops : List ℕ → ℕ → List Op
+info_ops ws a = ops_run ws (base_at ws a) (a + 3) (word ws (a + 2))
+
+-- m infos from word a on, last to first
+unfoldable pub infos_run : List ℕ → ℕ → ℕ → List Op
+infos_run ws a zero = []
+infos_run ws a (suc m) = info_ops ws (info_from ws a m) ++ infos_run ws a m
 
 -- what is left to run: these operations of an info backwards, then the first m infos
 abbrev pub left_to_run : List ℕ → ℕ → Base → List (List ℕ) → List Op
@@ -263,6 +281,35 @@ module _ (ws : List ℕ) (k : ℕ) where
 
 -- ---- the order of the run
 
+-- running backwards from word a: first what stands from a + 3 on
+back_first : (ws : List ℕ) (b : Base) (a n : ℕ) → ops_run ws b a (suc n) ≡ ops_run ws b (a + 3) n ++ (op_at ws b a ∷ [])
+unfolding ops_run
+back_first ws b a zero = let e : a + 3 * 0 ≡ a = omega arith in rw e
+back_first ws b a (suc n) = let e : a + 3 * suc n ≡ a + 3 + 3 * n = omega arith in
+    rw e (ap (λ (l : List Op). op_at ws b (a + 3 + 3 * n) ∷ l) (back_first ws b a n))
+
+pub ops_stored : (ws : List ℕ) (b : Base) (a n : ℕ) → reverse (stored ws b a n) ≡ ops_run ws b a n
+unfolding stored ops_run op_at
+ops_stored ws b a zero = refl
+ops_stored ws b a (suc n) =
+    reverse-cons (op_at ws b a) (stored ws b (a + 3) n) ∙ ap (λ (l : List Op). l ++ (op_at ws b a ∷ [])) (ops_stored ws b (a + 3) n) ∙ sym (back_first ws b a n)
+
+-- running m + 1 infos from word a on, last to first: that at a comes last
+own_last : (ws : List ℕ) (a m : ℕ) → infos_run ws a (suc m) ≡ infos_run ws (next_info ws a) m ++ info_ops ws a
+unfolding infos_run info_from
+own_last ws a zero = append-nil (info_ops ws a)
+own_last ws a (suc m) = ap (λ (l : List Op). info_ops ws (info_from ws (next_info ws a) m) ++ l) (own_last ws a m)
+    ∙ sym (append_assoc (info_ops ws (info_from ws (next_info ws a) m)) (infos_run ws (next_info ws a) m) (info_ops ws a))
+
+infos_run_lem : (ws : List ℕ) (m a : ℕ) → in_order (infos ws m a) ≡ infos_run ws a m
+unfolding infos in_order infos_run
+infos_run_lem ws zero a = refl
+infos_run_lem ws (suc m) a = rw (ops_stored ws (base_at ws a) (a + 3) (word ws (a + 2)), infos_run_lem ws m (next_info ws a)) (sym (own_last ws a m))
+
+pub chain_run : (ws : List ℕ) → chain ws ≡ infos_run ws 4 (info_count ws)
+unfolding chain
+chain_run ws = infos_run_lem ws (info_count ws) 4
+
 -- of m + 1 infos from word a on, the last one runs first
 last_first : (ws : List ℕ) (m a : ℕ)
     → in_order (infos ws (m + 1) a)
@@ -323,6 +370,89 @@ within S o = ltb (value_of o) (2 ^ 31) && ltb (S + growth_of o) (2 ^ 31)
 unfoldable pub reaches : ℕ → List Op → Bool
 reaches S [] = true
 reaches S (o ∷ os) = within S o && reaches (S + growth_of o) os
+
+-- ---- one step of each
+
+pub ops_step : (ws : List ℕ) (b : Base) (a n : ℕ) → 0 < n → ops_run ws b a n ≡ op_at ws b (a + 3 * (n - 1)) ∷ ops_run ws b a (n - 1)
+unfolding ops_run
+ops_step ws b a n h = ap (ops_run ws b a) (one_less n h)
+
+pub chain_step : (ws : List ℕ) (a m : ℕ) → 0 < m → infos_run ws a m ≡ info_ops ws (info_from ws a (m - 1)) ++ infos_run ws a (m - 1)
+unfolding infos_run
+chain_step ws a m h = ap (infos_run ws a) (one_less m h)
+
+pub info_step : (ws : List ℕ) (a k : ℕ) → 0 < k → info_from ws a k ≡ info_from ws (next_info ws a) (k - 1)
+unfolding info_from
+info_step ws a k h = ap (info_from ws a) (one_less k h)
+
+pub infos_fit_step : (ws : List ℕ) (m a : ℕ) → 0 < m → infos_fit ws m a ≡ (info_fits ws a && infos_fit ws (m - 1) (next_info ws a))
+unfolding infos_fit
+infos_fit_step ws m a h = ap (λ (k : ℕ). infos_fit ws k a) (one_less m h)
+
+pub ops_fit_step : (ws : List ℕ) (a n : ℕ) → 0 < n
+    → ops_fit ws a n ≡ (op_fits (word ws a) (word ws (a + 1)) (word ws (a + 2)) && ops_fit ws (a + 3) (n - 1))
+unfolding ops_fit
+ops_fit_step ws a n h = ap (ops_fit ws a) (one_less n h)
+
+pub undecodable_ops_step : (ws : List ℕ) (a n : ℕ) → 0 < n → undecodable_ops ws a n ≡ (eqb (word ws a) 8 || undecodable_ops ws (a + 3) (n - 1))
+unfolding undecodable_ops
+undecodable_ops_step ws a n h = ap (undecodable_ops ws a) (one_less n h)
+
+pub undecodable_step : (ws : List ℕ) (m a : ℕ) → 0 < m
+    → undecodable_infos ws m a ≡ (undecodable_ops ws (a + 3) (word ws (a + 2)) || undecodable_infos ws (m - 1) (next_info ws a))
+unfolding undecodable_infos
+undecodable_step ws m a h = ap (λ (k : ℕ). undecodable_infos ws k a) (one_less m h)
+
+-- ---- bounds that the layout gives
+
+pub count_small : (ws : List ℕ) (a : ℕ) → T (info_fits ws a) → word ws (a + 2) ≤ 255
+unfolding info_fits
+count_small ws a h = leb→le (word ws (a + 2)) 255 (search (and_l, and_r))
+
+-- an info has at most 768 words
+pub info_bound : (ws : List ℕ) (a m : ℕ) → T (info_fits ws a) → 0 < m → a + 768 * m ≤ 24580 → next_info ws a + 768 * (m - 1) ≤ 24580
+info_bound ws a m h k b = omega (arith, count_small ws a h)
+
+pub layout_is : (ws : List ℕ) → 1 ≤ info_count ws → info_count ws ≤ 32 → infos_fit ws (info_count ws) 4 ≡ x64_layout ws
+unfolding x64_layout
+layout_is ws h k = rw (le-leb 1 (info_count ws) h, le-leb (info_count ws) 32 k)
+
+pub layout_few : (ws : List ℕ) → T (x64_layout ws) → info_count ws ≤ 32
+unfolding x64_layout
+layout_few ws h = leb→le (info_count ws) 32 (search (and_l, and_r))
+
+-- each of m infos from word a on fits
+info_in : (ws : List ℕ) (m a k : ℕ) → T (infos_fit ws m a) → k < m → T (info_fits ws (info_from ws a k))
+unfolding infos_fit info_from
+info_in ws zero a k f h = absurd (omega arith)
+info_in ws (suc m) a zero f h = and_l (info_fits ws a) _ f
+info_in ws (suc m) a (suc k) f h = info_in ws m (next_info ws a) k (and_r (info_fits ws a) _ f) (omega arith)
+
+pub info_few : (ws : List ℕ) (k : ℕ) → T (x64_layout ws) → k < info_count ws → word ws (info_at ws k + 2) ≤ 255
+info_few ws k l h = count_small ws (info_at ws k) (info_in ws (info_count ws) 4 k (layout_infos ws l) h)
+
+-- ---- of two rows, one after the other
+
+pub run_append : {A : Type 0} (f : ℕ → Op → List A) (S : ℕ) (xs ys : List Op) → run f S (xs ++ ys) ≡ run f S xs ++ run f (S + growths xs) ys
+unfolding run tally
+run_append f S [] ys = let e : S + 0 ≡ S = omega arith in rw e
+run_append f S (x ∷ xs) ys = rw (run_append f (S + growth_of x) xs ys, append_assoc (f S x) (run f (S + growth_of x) xs) _, add_assoc S (growth_of x) (growths xs))
+
+pub reaches_append : (S : ℕ) (xs ys : List Op) → T (reaches S (xs ++ ys)) → T (reaches S xs) × T (reaches (S + growths xs) ys)
+unfolding reaches tally
+reaches_append S [] ys h = let e : S + 0 ≡ S = omega arith in (tt, rw e h)
+reaches_append S (x ∷ xs) ys h =
+    let r = reaches_append (S + growth_of x) xs ys (and_r (within S x) _ h) in
+    (both (within S x) _ (and_l (within S x) _ h) r.0, rw (← add_assoc S (growth_of x) (growths xs)) r.1)
+
+-- a total that is in reach stays below 2^31
+pub reaches_small : (S : ℕ) (os : List Op) → S < 2 ^ 31 → T (reaches S os) → S + growths os < 2 ^ 31
+unfolding reaches tally
+reaches_small S [] k h = omega arith
+reaches_small S (o ∷ os) k h =
+    let w : T (within S o) = and_l (within S o) _ h in
+    let l : S + growth_of o < 2 ^ 31 = ltb→lt (S + growth_of o) (2 ^ 31) (and_r (ltb (value_of o) (2 ^ 31)) _ w) in
+    omega (arith, reaches_small (S + growth_of o) os l (and_r (within S o) _ h))
 
 -- ---- refusal 6: the two tests of the code decide what document 01 asks of every printed place, where the layout holds
 
@@ -395,6 +525,15 @@ chain_reach ws h = reach_is 8 (chain ws) (omega arith) (chain_ok ws h)
 -- refusals 6 and 7
 unfoldable pub chain_refusal : List ℕ → Option Refusal
 chain_refusal ws = cond (in_reach 8 (chain ws)) (cond (ltb 1 (set_count (chain ws))) (Some Frame) None) (Some Reach)
+
+-- a chain that refuses nothing is in reach
+pub chain_none : (ws : List ℕ) → T (x64_layout ws) → chain_refusal ws ≡ None → T (reaches 8 (chain ws))
+unfolding chain_refusal
+chain_none ws l h = rw (chain_reach ws l) (go (in_reach 8 (chain ws)) (ltb 1 (set_count (chain ws))) h)
+  where
+    go : (b d : Bool) → ◌≡◌ {A = Option Refusal} (cond b (cond d (Some Frame) None) (Some Reach)) None → T b
+    go true d k = tt
+    go false d k = cc
 
 -- ---- what becomes of an entry, as the code asks it
 

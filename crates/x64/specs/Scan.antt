@@ -1,5 +1,5 @@
 -- What a first pass over a chain's operations keeps, one step for each; Laws: what it says of the chain.
-use Rattle.std.specs.Prelude.{ℕ, ◌+◌, true, false, cond, ◌||◌, List, [], ◌∷◌, pos, Option, None, Some}
+use Rattle.std.specs.Prelude.{ℕ, ◌+◌, ◌^◌, ◌<◌, true, false, cond, ◌||◌, List, [], ◌∷◌, pos, Option, None, Some, IfSome}
 use Rattle.std.specs.Option.{is_some, unwrap_or}
 use Rattle.std.proofs.Math.IntN.{sub_ℕ}
 use Rattle.x64.specs.declared.Base.{Base}
@@ -61,3 +61,7 @@ cfa_by (Some f) S = cfa_text (pe_name f.base.register) (sub_ℕ f.place f.base.o
 
 unfoldable pub cfa_of : Scan → List ℕ
 cfa_of s = cfa_by s.frame s.total
+
+-- the total, and the place where a frame register was set, are below 2^31
+abbrev pub Small : Scan → Type 0
+Small s = (s.total < 2 ^ 31) × IfSome s.frame (λ f. f.place < 2 ^ 31)

@@ -1,22 +1,56 @@
 -- What a first pass says of a chain: its steps, its CFA and machine frames, and refusals 6 and 7.
-use Rattle.std.specs.Prelude.{◌≡◌, ℕ, ◌+◌, Bool, true, false, cond, ◌&&◌, ◌||◌, List, [], ◌∷◌, T, ltb, Option, None, Some}
-use Rattle.std.specs.Option.{is_some, unwrap_or}
-use Rattle.std.proofs.Common.{refl, sym, ap, ◌∙◌, arith, lt-ltb}
+use Rattle.std.specs.Prelude.{◌≡◌, ℕ, ◌+◌, ◌^◌, ◌≤◌, ◌<◌, Bool, true, false, cond, ◌&&◌, ◌||◌, List, [], ◌∷◌, ◌++◌, T, ltb, Option, None, Some, IfSome}
+use Rattle.std.specs.Option.{is_some, unwrap_or, option_and_then}
+use Rattle.std.proofs.Common.{refl, sym, ap, ◌∙◌, arith, le-ltb, lt-ltb, ltb→lt}
+use Rattle.text.specs.Tests.{is_true, and_r}
 use Rattle.std.proofs.Math.Bool.{or-true, or-false}
 use Rattle.refusal.specs.declared.Refusal.TheVariants.{Reach, Frame}
 use Rattle.x64.specs.declared.Op.{Op}
 use Rattle.x64.specs.declared.Op.TheVariants.{PushNonVolatile, Alloc, SaveRsp, SaveFp, SetFpRegister, PushMachineFrame, Other, Undecodable}
 use Rattle.x64.specs.declared.Frame as F
 use Rattle.x64.specs.declared.Scan.{Scan}
-use Rattle.x64.specs.X64.{chain, growth_of, run, total, set_text, cfa_or, is_machine, any_machine, is_set, set_count, in_reach, x64_layout}
+use Rattle.x64.specs.X64.{chain, growth_of, value_of, run, total, set_text, cfa_or, is_machine, any_machine, is_set, set_count, in_reach, x64_layout}
 use Rattle.x64.specs.Index.{within, reaches, chain_reach, chain_refusal}
-use Rattle.x64.specs.Scan.{scan_start, grown, framed, machined, advance, scan_step, scanned, cfa_by, cfa_of}
+use Rattle.x64.specs.Scan.{scan_start, grown, framed, machined, advance, scan_step, scanned, cfa_by, cfa_of, Small}
 
 -- ---- one step
 
 -- after an operation in reach
 abbrev after : Scan → Op → Scan
 after s o = advance s o (s.total + growth_of o)
+
+pub growth_small : (o : Op) → growth_of o ≤ value_of o + 48
+unfolding growth_of value_of
+growth_small (PushNonVolatile r) = omega arith
+growth_small (Alloc v) = omega arith
+growth_small (SaveRsp r v) = omega arith
+growth_small (SaveFp r v b) = omega arith
+growth_small (SetFpRegister b) = omega arith
+growth_small (PushMachineFrame true) = omega arith
+growth_small (PushMachineFrame false) = omega arith
+growth_small Other = omega arith
+growth_small Undecodable = omega arith
+
+module _ (s : Scan) (o : Op) where
+  pub step_value : 2 ^ 31 ≤ value_of o → None ≡ scan_step s o
+  unfolding scan_step
+  step_value k = rw (le-ltb (value_of o) (2 ^ 31) k)
+
+  pub step_total : value_of o < 2 ^ 31 → 2 ^ 31 ≤ s.total + growth_of o → None ≡ scan_step s o
+  unfolding scan_step
+  step_total j k = rw (lt-ltb (value_of o) (2 ^ 31) j, le-ltb (s.total + growth_of o) (2 ^ 31) k)
+
+  pub step_on : value_of o < 2 ^ 31 → s.total + growth_of o < 2 ^ 31 → Some (after s o) ≡ scan_step s o
+  unfolding scan_step
+  step_on j k = rw (lt-ltb (value_of o) (2 ^ 31) j, lt-ltb (s.total + growth_of o) (2 ^ 31) k)
+
+  pub step_within : T (within s.total o) → scan_step s o ≡ Some (after s o)
+  unfolding scan_step
+  step_within w = rw (is_true (within s.total o) w)
+
+  pub step_without : within s.total o ≡ false → scan_step s o ≡ None
+  unfolding scan_step
+  step_without w = rw w
 
 module _ (s : Scan) (o : Op) (os : List Op) where
   pub step_none : scan_step s o ≡ None → scanned s (o ∷ os) ≡ None
@@ -34,6 +68,17 @@ module _ (s : Scan) (o : Op) (os : List Op) where
       go : (b : Bool) → ◌≡◌ {A = Option Scan} (cond b (Some (after s o)) None) (Some t) → ◌≡◌ {A = Option Scan} (cond b (scanned (after s o) os) None) (scanned t os)
       go true k = let e : after s o ≡ t = cc in rw e
       go false k = cc
+
+-- two rows, one after the other
+pub scanned_append : (s : Scan) (xs ys : List Op) → scanned s (xs ++ ys) ≡ option_and_then (λ t. scanned t ys) (scanned s xs)
+unfolding scanned
+scanned_append s [] ys = refl
+scanned_append s (x ∷ xs) ys = go (within s.total x) (scanned_append (after s x) xs ys)
+  where
+    go : (t : Bool) → scanned (after s x) (xs ++ ys) ≡ option_and_then (λ t. scanned t ys) (scanned (after s x) xs)
+        → cond t (scanned (after s x) (xs ++ ys)) None ≡ option_and_then (λ t. scanned t ys) (cond t (scanned (after s x) xs) None)
+    go true h = h
+    go false h = refl
 
 advance_total : (s : Scan) (o : Op) (S : ℕ) → (advance s o S).total ≡ S
 unfolding advance grown framed machined
@@ -143,7 +188,7 @@ module _ (os : List Op) (z : Scan) (h : scanned scan_start os ≡ Some z) where
 
 -- ---- refusals 6 and 7
 
-scan_reached : (s : Scan) (os : List Op) → is_some (scanned s os) ≡ reaches s.total os
+pub scan_reached : (s : Scan) (os : List Op) → is_some (scanned s os) ≡ reaches s.total os
 unfolding scanned reaches
 scan_reached s [] = refl
 scan_reached s (o ∷ os) = go (within s.total o) (scan_reached (after s o) os)
@@ -171,3 +216,31 @@ module _ (ws : List ℕ) (l : T (x64_layout ws)) where
 -- a chain that came to something is in reach
 pub in_reach_is : (os : List Op) (z : Scan) → scanned scan_start os ≡ Some z → T (reaches 8 os)
 in_reach_is os z h = let r : reaches 8 os ≡ true = sym (chain_reached os) ∙ rw h in rw r tt
+
+-- ---- the total, and the place where a frame register was set, stay below 2^31
+
+advance_place : (s : Scan) (o : Op) (S : ℕ) → Small s → IfSome (advance s o S).frame (λ f. f.place < 2 ^ 31)
+unfolding advance grown framed machined
+advance_place s (PushNonVolatile r) S h = h.1
+advance_place s (Alloc v) S h = h.1
+advance_place s (SaveRsp r v) S h = h.1
+advance_place s (SaveFp r v b) S h = h.1
+advance_place s (SetFpRegister b) S h = go s.frame h.1
+  where
+    go : (x : Option F.Frame) → IfSome x (λ f. f.place < 2 ^ 31) → (unwrap_or x (record { base = b; place = s.total })).place < 2 ^ 31
+    go None k = h.0
+    go (Some x) k = k
+advance_place s (PushMachineFrame e) S h = h.1
+advance_place s Other S h = h.1
+advance_place s Undecodable S h = h.1
+
+pub scanned_small : (s : Scan) (os : List Op) (z : Scan) → Small s → scanned s os ≡ Some z → Small z
+unfolding scanned
+scanned_small s [] z h e = let k : s ≡ z = cc in rw (← k) h
+scanned_small s (o ∷ os) z h e =
+    go (within s.total o) e (λ w. ltb→lt (s.total + growth_of o) (2 ^ 31) (and_r (ltb (value_of o) (2 ^ 31)) _ w)) (scanned_small (after s o) os z)
+  where
+    go : (t : Bool) → ◌≡◌ {A = Option Scan} (cond t (scanned (after s o) os) None) (Some z) → (T t → s.total + growth_of o < 2 ^ 31)
+        → (Small (after s o) → scanned (after s o) os ≡ Some z → Small z) → Small z
+    go true k f ih = ih (rw (advance_total s o (s.total + growth_of o)) (f tt), advance_place s o (s.total + growth_of o) h) k
+    go false k f ih = cc
