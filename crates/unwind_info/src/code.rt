@@ -41,7 +41,7 @@ fn code(slots: usize, operation: Operation) -> UnwindCode
     UnwindCode { slots, operation }
 }
 
-// The number in the slot behind the first, and in the two behind it, the low byte first; none where they are past the part's end.
+// The number in the slot behind the first, the low byte first; none where that is past the part's end.
 #[tactic(auto, unfolding(crate::specs::UnwindInfo::slot_at))]
 fn near(slots: &[u8]) -> Option<u32>
     ensures number { result ≡ cond (leb 2 (length slots.now / 2)) (Some (slot_at slots.now 2)) None }
@@ -53,6 +53,7 @@ fn near(slots: &[u8]) -> Option<u32>
     Some(u32::from(u16::from_le_bytes([low, high])))
 }
 
+// The number in the two slots behind the first. Two functions: from_le_bytes is of one width, and one over a number of slots would choose between them.
 #[tactic(auto, unfolding(crate::specs::UnwindInfo::slot_at, crate::specs::UnwindInfo::long_at))]
 fn far(slots: &[u8]) -> Option<u32>
     ensures { result ≡ cond (leb 3 (length slots.now / 2)) (Some (long_at slots.now 2)) None }
@@ -63,7 +64,7 @@ fn far(slots: &[u8]) -> Option<u32>
     Some(u32::from_le_bytes([a, b, c, d]))
 }
 
-// A save lies relative to the frame register wherever the part has one.
+// A save lies relative to the frame register wherever the part has one: a number, not an option, as 0 is none on the page too.
 fn save(frame: u32, register: u32, value: u32) -> Operation
     ensures { result ≡ save frame register value }
 {
@@ -88,10 +89,10 @@ fn alloc_large(slots: &[u8], info: u32) -> Option<UnwindCode>
 fn push_machframe(info: u32) -> Option<UnwindCode>
     ensures { result ≡ push_machframe info }
 {
-    if info <= 1 {
-        return Some(code(1, PushMachineFrame(info == 1)));
+    match info {
+        0 | 1 => Some(code(1, PushMachineFrame(info == 1))),
+        _ => None,
     }
-    None
 }
 
 // The code that these slots start with: none where it is not defined, or runs past their end.

@@ -5,13 +5,11 @@ ghost use Rattle.text.specs.Text.{Put};
 ghost use Rattle.refusal.specs.Refusal.{number};
 ghost use Rattle.unwind_info.specs.UnwindInfo.{infos_words, parts as parts_of, first_refused, x64_number};
 
-use crate::part::{HEAD, OP_WORDS, Part};
+use crate::part::Part;
 use refusal::Refusal;
+use x64::{BODY_HEAD, INFO_HEAD, OP_WORDS};
 
 const MOST_PARTS: usize = 32;
-
-// The words of a body before its infos.
-const BEFORE_INFOS: usize = 4;
 
 // Bytes whose parts are all of version 1 and there.
 #[derive(Clone, Copy)]
@@ -60,7 +58,7 @@ impl<'a> Infos<'a> {
         let mut rest = bytes;
         let mut parts = 0;
         let mut slots = 0;
-        // no `for`: an iterator of parts that may be turned away would stand for this one loop alone
+        // No `for`: an iterator of parts that may be refused would stand for this one loop alone
         while !rest.is_empty() {
             let part = Part::read(rest)?;
             slots += part.slot_count();
@@ -88,7 +86,7 @@ impl<'a> Infos<'a> {
     fn most_words(self) -> usize
         ensures { result ≡ 4 + 3 * self.entry.parts + 3 * self.entry.slots }
     {
-        BEFORE_INFOS + HEAD * self.parts + OP_WORDS * self.slots
+        BODY_HEAD + INFO_HEAD * self.parts + OP_WORDS * self.slots
     }
 
     // How many it has.
@@ -96,7 +94,7 @@ impl<'a> Infos<'a> {
     fn count_words(self) -> usize
         ensures { result ≡ 4 + length (infos_words (parts_of self.entry.bytes.now)) }
     {
-        let mut words = BEFORE_INFOS;
+        let mut words = BODY_HEAD;
         for part in self.parts() {
             words += part.count_words();
         }
@@ -107,13 +105,10 @@ impl<'a> Infos<'a> {
     pub(crate) fn fits(self, room: usize) -> bool
         ensures { result ≡ leb (4 + length (infos_words (parts_of self.entry.bytes.now))) room }
     {
-        if self.most_words() <= room {
-            return true;
-        }
-        self.count_words() <= room
+        self.most_words() <= room || self.count_words() <= room
     }
 
-    // The infos, in a room that is long enough.
+    // The infos, in a room that is long enough: `fits` says so, once for all of them.
     #[tactic(auto, using(fill::specs::Fill::Laws::fitting_all))]
     pub(crate) fn put(self, out: &mut [u32], at: usize) -> usize
         requires { at + length (infos_words (parts_of self.bytes.now)) ≤ length out.old }

@@ -9,7 +9,8 @@
 //     byte 3   frame register (low 4 bits), frame offset in units of 16
 //     slot     code offset, not read; operation code (low 4 bits), info (high 4 bits)
 //
-// code reads the unwind codes, part the headers, infos the parts one after the other, with refusals 10, 11 and 4; here the body is put, with refusal 9.
+// code reads the unwind codes, part the headers, infos the parts one after the other, with refusals 10, 11 and 4; here the body is put,
+// with refusal 9.
 #![tactic(auto)]
 
 mod code;
@@ -28,7 +29,8 @@ use x64::kinds::{
     UNDECODABLE,
 };
 
-// What an unwind code becomes: an operation of the body, with the words that its kind uses.
+// What an unwind code becomes: an operation of the body, with the words that its kind uses, in their order, so by position. Not x64's Op: that has the
+// info's frame register and offset in each operation, which a part has once.
 #[derive(Clone, Copy, PartialEq, Eq)]
 pub enum Operation {
     // register

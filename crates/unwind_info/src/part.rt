@@ -6,17 +6,13 @@ ghost use Rattle.unwind_info.specs.UnwindInfo.{slot_count, frame_register, frame
 ghost use Rattle.unwind_info.specs.Index.{operations};
 
 use crate::code::{Operations, SLOT};
-use fill::put_words;
+use fill::{put_words, set_word};
 use refusal::Refusal;
+use x64::{INFO_HEAD, OP_WORDS};
 
 const HEADER: usize = 4;
 
 const VERSION: u8 = 1;
-
-// The words before an info's operations, and of an operation.
-pub(crate) const HEAD: usize = 3;
-
-pub(crate) const OP_WORDS: usize = 3;
 
 // A part that is all there, the header and the slots that it counts, and what stands behind it.
 #[derive(Clone, Copy)]
@@ -99,10 +95,11 @@ impl<'a> Part<'a> {
     pub(crate) fn count_words(self) -> usize
         ensures { (result ≡ length (info_words self.entry.bytes.now)) × (result ≤ 768) }
     {
-        HEAD + OP_WORDS * self.count_ops()
+        INFO_HEAD + OP_WORDS * self.count_ops()
     }
 
-    // Its info: frame register, frame offset, operation count, operations. The count is stored once they are known.
+    // Its info: frame register, frame offset, operation count, operations. The count is stored once they are known. That there is room is asked, not
+    // tested: whether all infos fit is known before the first is put, and no refusal is left for here.
     pub(crate) fn put(self, out: &mut [u32], at: usize) -> usize
         requires { at + length (info_words self.bytes.now) ≤ length out.old }
         ensures { Put out.old at (info_words self.entry.bytes.now) out.new result }
@@ -112,7 +109,7 @@ impl<'a> Part<'a> {
         for op in self.operations() {
             p = put_words(out, p, &op.words());
         }
-        out[first - 1] = ((p - first) / OP_WORDS) as u32;
+        set_word(out, first - 1, ((p - first) / OP_WORDS) as u32);
         p
     }
 }

@@ -24,7 +24,7 @@ ghost use Rattle.x64.specs.Index.{op_in, info_length, info_at, IsInfo, left_to_r
 use crate::kinds::{
     ALLOC, PUSH_MACHINE_FRAME, PUSH_NONVOLATILE, SAVE_FP, SAVE_RSP, SET_FP_REGISTER, UNDECODABLE,
 };
-use crate::{Base, Op};
+use crate::{BODY_HEAD, Base, INFO_HEAD, OP_WORDS, Op};
 use entry::word;
 
 // Where the words of a body stand.
@@ -35,18 +35,6 @@ const END_AT: usize = 1;
 pub(crate) const INFO_ADDRESS_AT: usize = 2;
 
 pub(crate) const INFOS_AT: usize = 3;
-
-pub(crate) const FIRST_INFO: usize = 4;
-
-// Those of an info, behind its frame register.
-const FRAME_OFFSET_AT: usize = 1;
-
-const OPS_AT: usize = 2;
-
-const FIRST_OP: usize = 3;
-
-// How many an operation has: kind, register, value.
-const OP_WORDS: usize = 3;
 
 pub(crate) type OpWords = [u32; OP_WORDS];
 
@@ -110,16 +98,15 @@ impl<'a> Info<'a> {
         ensures { MatchOption result (length words.now < info_length words.now)
             (λ p. (info_length words.now ≤ length words.now) × IsInfo words.now p.0.base p.0.ops.now × (p.1.now ≡ drop (info_length words.now) words.now)) }
     {
-        let end = FIRST_OP + OP_WORDS * word(words, OPS_AT) as usize;
-        if words.len() < end {
+        let (head, behind) = words.split_first_chunk::<INFO_HEAD>()?;
+        let [register, offset, count] = *head;
+        let end = OP_WORDS * count as usize;
+        if behind.len() < end {
             return None;
         }
-        let (ops, _) = words[FIRST_OP..end].as_chunks::<OP_WORDS>();
-        let base = Base {
-            register: words[0],
-            offset: words[FRAME_OFFSET_AT],
-        };
-        Some((Info { base, ops }, &words[end..]))
+        let (ops, _) = behind[..end].as_chunks::<OP_WORDS>();
+        let base = Base { register, offset };
+        Some((Info { base, ops }, &behind[end..]))
     }
 
     // The operation that these words of it hold.
@@ -143,7 +130,8 @@ impl<'a> Info<'a> {
 
 // ---- a body
 
-// The words of a body that keeps the layout: refusal 4 does not apply.
+// The words of a body that keeps the layout: refusal 4 does not apply. Begin, end and count are read where they stand: as fields, each would need a
+// ghost fact that it is that word.
 #[derive(Clone, Copy)]
 pub(crate) struct Body<'a> {
     pub(crate) words: &'a [u32],
@@ -174,7 +162,7 @@ impl<'a> Body<'a> {
         requires { k ≤ get_or self.words.now 3 0 }
         ensures { result.now ≡ drop (info_at self.entry.words.now k) self.entry.words.now }
     {
-        let mut rest = &self.words[FIRST_INFO..];
+        let mut rest = &self.words[BODY_HEAD..];
         for _ in 0..k {
             rest = Info::split(rest).unwrap().1;
         }
@@ -230,7 +218,7 @@ impl<'a> Iterator for Chain<'a> {
     ghost remaining = { item_count (λ s. left_to_run s.body.words.now s.left s.info.base s.info.ops.now) };
 
     fn next(&mut self) -> Option<Op> {
-        // no `for`: past infos without operations, of which there may be any number
+        // No `for`: past infos without operations, of which there may be any number
         while self.info.ops.is_empty() && 0 < self.left {
             self.left -= 1;
             self.info = self.body.info(self.left);

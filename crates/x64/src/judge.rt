@@ -1,14 +1,14 @@
-// The tests of an x64 entry: the layout (refusal 4), skipping, and the chain (refusals 6 and 7), which is run once for these, and what it comes to
-// goes on to the line.
+// The tests of an x64 entry: the layout (refusal 4), skipping, and the chain (refusals 6 and 7). It is run once for both of these, and what it comes
+// to is handed on to the line.
 ghost use Rattle.std.specs.Prelude.{◌≡◌, min, false, get_or, Some, None, MatchOption, MatchResult};
 ghost use Rattle.std.specs.List.{list_all, list_any};
 ghost use Rattle.x64.specs.X64.{chain, x64_layout, all_zero, undecodable_infos, x64_skipped};
 ghost use Rattle.x64.specs.Index.{op_fits_in, fits_in, undecodable_in, chain_refusal};
 ghost use Rattle.x64.specs.Scan.{scan_start, advance, scan_step, scanned};
 
-use crate::body::{Body, FIRST_INFO, INFO_ADDRESS_AT, INFOS_AT, Info, OpWords, SLOT};
+use crate::body::{Body, INFO_ADDRESS_AT, INFOS_AT, Info, OpWords, SLOT};
 use crate::kinds::{PUSH_MACHINE_FRAME, PUSH_NONVOLATILE, SAVE_FP, SAVE_RSP, UNDECODABLE};
-use crate::{Frame, Op, Scan};
+use crate::{BODY_HEAD, Frame, Op, Scan};
 use entry::word;
 use refusal::Refusal;
 
@@ -36,7 +36,7 @@ fn op_fits(words: &OpWords) -> bool
     match kind {
         PUSH_NONVOLATILE | SAVE_RSP | SAVE_FP => register < REGISTERS,
         PUSH_MACHINE_FRAME => value <= 1,
-        1..=UNDECODABLE => true,
+        PUSH_NONVOLATILE..=UNDECODABLE => true,
         _ => false,
     }
 }
@@ -70,11 +70,10 @@ impl<'a> Body<'a> {
     pub(crate) fn read(words: &'a [u32]) -> Option<Body<'a>>
         ensures { MatchOption result (x64_layout words.now ≡ false) (λ b. b.words.now ≡ words.now) }
     {
-        let infos = word(words, INFOS_AT);
-        if infos < 1 || MOST_INFOS < infos {
+        let infos @ 1..=MOST_INFOS = word(words, INFOS_AT) else {
             return None;
-        }
-        let mut rest = &words[FIRST_INFO..];
+        };
+        let mut rest = &words[BODY_HEAD..];
         for _ in 0..infos {
             let (info, behind) = Info::split(rest)?;
             if !info.fits() {
@@ -145,7 +144,7 @@ impl Scan {
         ensures { result ≡ advance self op total }
     {
         match op {
-            // the first one counts
+            // The first one counts.
             Op::SetFpRegister(base) => match self.frame {
                 Some(_) => self.twice = true,
                 None => {

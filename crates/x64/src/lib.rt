@@ -27,6 +27,13 @@ use judge::scan_chain;
 use refusal::Refusal;
 use write::put_entry;
 
+// How many words stand in a body before its infos, in an info before its operations, and in an operation: kind, register, value.
+pub const BODY_HEAD: usize = 4;
+
+pub const INFO_HEAD: usize = 3;
+
+pub const OP_WORDS: usize = 3;
+
 // An info's frame register, with its frame offset.
 #[derive(Clone, Copy)]
 pub struct Base {
@@ -34,7 +41,8 @@ pub struct Base {
     pub offset: u32,
 }
 
-// An unwind operation with the words that it uses; those that need the frame register carry it with its offset.
+// An unwind operation with the words that it uses; those that need the frame register carry it with its offset. By position, not by name: they stand
+// as in a body's words, register and then value, and the definitions in specs/ read them in that order.
 #[derive(Clone, Copy)]
 pub enum Op {
     // 8 bytes: the register lies at the new top of the stack
@@ -61,7 +69,8 @@ pub struct Frame {
 }
 
 // What a chain comes to, as far as it is run: the total, the frame register that was set first, whether one was set again, and whether there was a
-// machine frame. `twice` stands beside `frame` and ends no run: document 01 has refusal 6, which an operation further on may meet, before 7.
+// machine frame. `twice` stands beside `frame` and ends no run: document 01 has refusal 6, which an operation further on may meet, before 7. An enum of
+// none, one and more would hold the frame in two of them.
 #[derive(Clone, Copy)]
 pub struct Scan {
     pub total: u32,

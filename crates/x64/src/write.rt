@@ -122,7 +122,7 @@ fn put_scan(out: &mut [u8], at: usize, scan: Scan) -> usize
     }
 }
 
-// The line; `scan` is what the chain came to.
+// The line; `scan` is what the chain came to, handed over beside the body: a struct of both would be made for this one call.
 pub(crate) fn put_entry(out: &mut [u8], at: usize, body: Body, scan: Scan) -> usize
     requires { scanned scan_start (chain body.words.now) ≡ Some scan }
     ensures { Put out.old at (x64_text body.entry.words.now) out.new result }

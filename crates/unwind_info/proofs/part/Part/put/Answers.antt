@@ -31,8 +31,8 @@ loop-op-preserved c = record {
   left = fitting_put c.loop-op.invariant.left (ops_first _ _ c.in-Some.ensures.steps) (rw c.words.ensures at c.put_words-p.ensures);
 }
 
-pub overflow_cast-out : goal.overflow_cast-out
-overflow_cast-out c =
+pub overflow_cast-p : goal.overflow_cast-p
+overflow_cast-p c =
     let p = c.args.self.bytes.now in
     let d = fitting_none c.loop-op.invariant.left (ops_none _ c.in-None.ensures.steps.0) in
     record { fits = omega (arith, d.1, ops_length (codes_of p), c.operations-op-items.ensures.1) }
@@ -42,4 +42,4 @@ returns c =
     let p = c.args.self.bytes.now in
     let d = fitting_none c.loop-op.invariant.left (ops_none _ c.in-None.ensures.steps.0) in
     let n : (c.loop-op.p - c.put_words-first.result) / 3 ≡ length (codes_of p) = omega (arith, d.1, ops_length (codes_of p)) in
-    info_put p (rw (c.frame_register.ensures, c.frame_offset.ensures) at c.put_words-first.ensures) d.0 n c.requires
+    rw c.set_word.ensures (info_put p (rw (c.frame_register.ensures, c.frame_offset.ensures) at c.put_words-first.ensures) d.0 n c.requires)
