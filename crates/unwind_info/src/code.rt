@@ -53,7 +53,8 @@ fn near(slots: &[u8]) -> Option<u32>
     Some(u32::from(u16::from_le_bytes([low, high])))
 }
 
-// The number in the two slots behind the first. Two functions: from_le_bytes is of one width, and one over a number of slots would choose between them.
+// The number in the two slots behind the first. Two functions: from_le_bytes is of one width, and one over a number of slots would choose between
+// them.
 #[tactic(auto, unfolding(crate::specs::UnwindInfo::slot_at, crate::specs::UnwindInfo::long_at))]
 fn far(slots: &[u8]) -> Option<u32>
     ensures { result ≡ cond (leb 3 (length slots.now / 2)) (Some (long_at slots.now 2)) None }

@@ -29,8 +29,8 @@ use x64::kinds::{
     UNDECODABLE,
 };
 
-// What an unwind code becomes: an operation of the body, with the words that its kind uses, in their order, so by position. Not x64's Op: that has the
-// info's frame register and offset in each operation, which a part has once.
+// What an unwind code becomes: an operation of the body, with the words that its kind uses, in their order, so by position. Not x64's Op: that has
+// the info's frame register and offset in each operation, which a part has once.
 #[derive(Clone, Copy, PartialEq, Eq)]
 pub enum Operation {
     // register

@@ -96,7 +96,8 @@ impl<'a> Info<'a> {
     // The info that the words begin with, and the words behind it; none where they are too few.
     pub(crate) fn split(words: &'a [u32]) -> Option<(Info<'a>, &'a [u32])>
         ensures { MatchOption result (length words.now < info_length words.now)
-            (λ p. (info_length words.now ≤ length words.now) × IsInfo words.now p.0.base p.0.ops.now × (p.1.now ≡ drop (info_length words.now) words.now)) }
+            (λ p. (info_length words.now ≤ length words.now)
+            × IsInfo words.now p.0.base p.0.ops.now × (p.1.now ≡ drop (info_length words.now) words.now)) }
     {
         let (head, behind) = words.split_first_chunk::<INFO_HEAD>()?;
         let [register, offset, count] = *head;

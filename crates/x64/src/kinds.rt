@@ -1,5 +1,5 @@
-// The kinds of operations, by the numbers that the words of a body have (docs/BOOK.md), for what reads bodies and what makes them. No enum: a word can
-// hold any other number, and what is read of it is an Op.
+// The kinds of operations, by the numbers that the words of a body have (docs/BOOK.md), for what reads bodies and what makes them. No enum: a word
+// can hold any other number, and what is read of it is an Op.
 pub const PUSH_NONVOLATILE: u32 = 1;
 
 pub const ALLOC: u32 = 2;

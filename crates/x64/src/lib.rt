@@ -69,8 +69,8 @@ pub struct Frame {
 }
 
 // What a chain comes to, as far as it is run: the total, the frame register that was set first, whether one was set again, and whether there was a
-// machine frame. `twice` stands beside `frame` and ends no run: document 01 has refusal 6, which an operation further on may meet, before 7. An enum of
-// none, one and more would hold the frame in two of them.
+// machine frame. `twice` stands beside `frame` and ends no run: document 01 has refusal 6, which an operation further on may meet, before 7. An enum
+// of none, one and more would hold the frame in two of them.
 #[derive(Clone, Copy)]
 pub struct Scan {
     pub total: u32,
