@@ -10,7 +10,7 @@ use std::io::Read;
 const MOST_BYTES: usize = 65536;
 
 // The words of a book, four bytes each; none where the bytes are no book.
-#[tactic(auto, using(crate::specs::Words::Laws::too_long, crate::specs::Words::Laws::broken, crate::specs::Words::Laws::whole))]
+#[tactic(auto, using(crate::specs::Words::Laws::long_none, crate::specs::Words::Laws::broken_none, crate::specs::Words::Laws::whole_words))]
 fn book_words(bytes: &[u8]) -> Option<&[[u8; 4]]>
     ensures { MatchOption result (IsNoBook bytes.now) (λ words. AreWords bytes.now words.now) }
 {

@@ -1,21 +1,26 @@
 -- The parts of a body as the code has them, what the layout gives, and what is left of a text that is trimmed.
-use Rattle.std.specs.Prelude.{◌≡◌, refl, ℕ, zero, suc, ◌+◌, ◌-◌, ◌*◌, ◌/◌, ◌≤◌, ◌<◌, Bool, true, false, cond, ◌&&◌, length, get_or, take, drop, map, T, eqb}
-use Rattle.std.proofs.Common.{sym, ap, ◌∙◌, arith, add-one, length-take, length-drop, drop-cons, ne_eqb, eq-eqb}
+use Rattle.std.specs.Prelude.{◌≡◌, refl, ℕ, zero, suc, ◌+◌, ◌-◌, ◌*◌, ◌/◌, ◌≤◌, ◌<◌, length, get_or, take, drop, map, T, leb, eqb}
+use Rattle.std.specs.Prelude.{Bool, true, false, not, cond, ◌&&◌, Option, Ok}
+use Rattle.std.proofs.Common.{sym, ap, ◌∙◌, arith, add-one, length-take, length-drop, drop-cons, ne_eqb, eq-eqb, leb→le, eqb→eq}
 use Rattle.std.proofs.lemmas.List.{take-append-drop, nil_from_length}
 use Rattle.std.specs.Simd.{first_chunks}
 use mathlib.Core.List.{List, [], ◌∷◌, ◌++◌, reverse, reverse_aux, reverse-append, reverse-reverse}
 use lib.Pointwise.{pointwise, bytes_decides}
 use borrow.Author.Tests.{le-leb, lt-leb}
 use Rattle.text.specs.Text.{ascii}
-use Rattle.text.specs.Tests.{and_l, and_r, both, all}
+use Rattle.text.specs.Tests.{and_l, and_r, both, all, one_less}
 use Rattle.lines.specs.declared.StackInfo.{StackInfo}
 use Rattle.lines.specs.Lines.{flag, win_text}
 use Rattle.pdb.specs.declared.Part.{Part}
 use Rattle.pdb.specs.declared.Part.TheVariants.{Prolog, Code}
 use Rattle.pdb.specs.declared.Range.{Range}
+use Rattle.refusal.specs.declared.Refusal.TheVariants.{Reach}
+use Rattle.entry.specs.declared.Fate.TheVariants.{Write}
+use Rattle.entry.specs.declared.Last.{Last}
 use Rattle.entry.specs.Entry.{word}
-use Rattle.pdb.specs.Pdb.{start_of, end_of, range_at, ranges, words_from, prologs, codes, program, sizes_fit, flags_fit, has_program, counts_fit, range_fits}
-use Rattle.pdb.specs.Pdb.{apart, differ, ranges_fit, printable, rest_fits, pdb_layout, lead}
+use Rattle.entry.specs.Entry.Laws.{only_written}
+use Rattle.pdb.specs.Pdb.{start_of, end_of, range_at, ranges, words_from, prologs, codes, program, sizes_fit, flags_fit, has_program, length_fits, counts_fit, range_fits}
+use Rattle.pdb.specs.Pdb.{apart, differ, ranges_fit, printable, rest_fits, pdb_layout, pdb_skipped, in_reach, pdb_judged, lead}
 use Rattle.pdb.specs.Pdb.{trim, max_stack, numbers_text, range_text, sorted, ranges_text, contiguous, both_text, pdb_text}
 
 -- ---- the parts of a body
@@ -59,7 +64,24 @@ pairs_part ws a e n h k =
     let l : length (part a (2 * n) ws) / 2 ≡ n = omega (arith, length-take (2 * n) (drop a ws), length-drop a ws) in
     rw (f, l) (ranges_part ws a n (omega arith))
 
--- where they lie
+-- ---- where the lists lie
+
+-- the prolog ranges, or the code ranges
+unfoldable pub listed : List ℕ → Bool → List Range
+listed ws prolog = cond prolog (prologs ws) (codes ws)
+
+pub prologs_at : (ws : List ℕ) (p : ℕ) → p ≡ word ws 12 → ranges ws 15 p ≡ prologs ws
+unfolding prologs
+prologs_at ws p e = rw e
+
+pub codes_at : (ws : List ℕ) (p c : ℕ) → p ≡ word ws 12 → c ≡ word ws 13 → ranges ws (15 + 2 * p) c ≡ codes ws
+unfolding codes
+codes_at ws p c e f = rw (e, f)
+
+pub program_at : (ws : List ℕ) (p c n : ℕ) → p ≡ word ws 12 → c ≡ word ws 13 → n ≡ word ws 14 → words_from ws (15 + 2 * p + 2 * c) n ≡ program ws
+unfolding program
+program_at ws p c n e f g = rw (e, f, g)
+
 pub prologs_part : (ws : List ℕ) (a : ℕ) → a ≡ 15 + 2 * word ws 12 → a ≤ length ws
     → ranges_of (first_chunks 2 (length (part 15 (a - 15) ws) / 2) (part 15 (a - 15) ws)) ≡ prologs ws
 unfolding prologs
@@ -77,6 +99,76 @@ program_part ws a b e f h =
     let m : b ≡ 15 + 2 * word ws 12 + 2 * word ws 13 = omega arith in
     rw (n, m) (words_part ws (15 + 2 * word ws 12 + 2 * word ws 13) (word ws 14) (omega arith))
 
+-- ---- one step of each
+
+pub words_step : (ws : List ℕ) (a n : ℕ) → 0 < n → words_from ws a n ≡ word ws a ∷ words_from ws (a + 1) (n - 1)
+unfolding words_from
+words_step ws a n h = ap (words_from ws a) (one_less n h)
+
+pub words_snoc : (ws : List ℕ) (a n : ℕ) → words_from ws a (suc n) ≡ words_from ws a n ++ (word ws (a + n) ∷ [])
+unfolding words_from
+words_snoc ws a zero = let e : a + 0 ≡ a = omega arith in rw e
+words_snoc ws a (suc n) = let e : a + suc n ≡ a + 1 + n = omega arith in rw e (ap (λ (l : List ℕ). word ws a ∷ l) (words_snoc ws (a + 1) n))
+
+pub words_last : (ws : List ℕ) (a n : ℕ) → 0 < n → words_from ws a n ≡ words_from ws a (n - 1) ++ (word ws (a + n - 1) ∷ [])
+words_last ws a zero h = absurd (omega arith)
+words_last ws a (suc n) h = let e : suc n - 1 ≡ n = omega arith in let f : a + suc n - 1 ≡ a + n = omega arith in rw (e, f) (words_snoc ws a n)
+
+pub bytes_step : (ws : List ℕ) (a n : ℕ) → 0 < n → all printable (words_from ws a n) ≡ (printable (word ws a) && all printable (words_from ws (a + 1) (n - 1)))
+bytes_step ws a n h = rw (words_step ws a n h)
+
+-- the last one's test comes last
+all_snoc : (xs : List ℕ) (x : ℕ) → all printable (xs ++ (x ∷ [])) ≡ (all printable xs && printable x)
+all_snoc [] x = one (printable x)
+  where
+    one : (t : Bool) → (t && true) ≡ (true && t)
+    one true = refl
+    one false = refl
+all_snoc (y ∷ ys) x = go (printable y) (all_snoc ys x)
+  where
+    go : (t : Bool) → all printable (ys ++ (x ∷ [])) ≡ (all printable ys && printable x) → (t && all printable (ys ++ (x ∷ []))) ≡ ((t && all printable ys) && printable x)
+    go true h = h
+    go false h = refl
+
+pub bytes_more : (ws : List ℕ) (a n : ℕ) → all printable (words_from ws a (n + 1)) ≡ (all printable (words_from ws a n) && printable (word ws (a + n)))
+bytes_more ws a n = rw (add-one n, words_snoc ws a n) (all_snoc (words_from ws a n) (word ws (a + n)))
+
+pub byte_small : (c : ℕ) → T (printable c) → c ≤ 126
+unfolding printable
+byte_small c h = leb→le c 126 (and_r (leb 32 c) _ h)
+
+byte_some : (c : ℕ) → T (printable c) → 32 ≤ c
+unfolding printable
+byte_some c h = leb→le 32 c (and_l (leb 32 c) _ h)
+
+-- past the end stands 0, which is no byte of a program
+some_within : (ws : List ℕ) (a : ℕ) → 0 < word ws a → a < length ws
+some_within [] a h = absurd (omega arith)
+some_within (x ∷ ws) zero h = omega arith
+some_within (x ∷ ws) (suc a) h = omega (arith, some_within ws a h)
+
+pub word_within : (ws : List ℕ) (a n i : ℕ) → T (all printable (words_from ws a n)) → i < n → (a + i < length ws) × (word ws (a + i) ≤ 126)
+unfolding words_from
+word_within ws a zero i h k = absurd (omega arith)
+word_within ws a (suc n) zero h k =
+    let t = and_l (printable (word ws a)) _ h in
+    let e : a + 0 ≡ a = omega arith in
+    rw e (some_within ws a (omega (arith, byte_some (word ws a) t)), byte_small (word ws a) t)
+word_within ws a (suc n) (suc i) h k =
+    let e : a + suc i ≡ a + 1 + i = omega arith in
+    rw e (word_within ws (a + 1) n i (and_r (printable (word ws a)) _ h) (omega arith))
+
+pub past_end : (ws : List ℕ) (a n : ℕ) → 0 < n → length ws < a + n → false ≡ all printable (words_from ws a n)
+past_end ws a n h k = go (all printable (words_from ws a n)) refl
+  where
+    go : (t : Bool) → all printable (words_from ws a n) ≡ t → false ≡ t
+    go true e = absurd (omega (arith, (word_within ws a n (n - 1) (rw e tt) (omega arith)).0))
+    go false e = refl
+
+pub apart_step : (ws : List ℕ) (s a n : ℕ) → 0 < n → apart s (ranges ws a n) ≡ (not (eqb (word ws a) s) && apart s (ranges ws (a + 2) (n - 1)))
+unfolding apart ranges range_at
+apart_step ws s a n h = ap (λ (k : ℕ). apart s (ranges ws a k)) (one_less n h)
+
 -- ---- one range and those behind it
 
 fits_cons : (r : Range) (rs : List Range) → ranges_fit (r ∷ rs) ≡ (range_fits r && (apart (start_of r) rs && ranges_fit rs))
@@ -89,6 +181,12 @@ fits_cons r rs = go (range_fits r) (all range_fits rs) (apart (start_of r) rs) (
     go true false true d = refl
     go true false false d = refl
     go false b c d = refl
+
+pub fits_step : (ws : List ℕ) (a n : ℕ) → 0 < n
+    → ranges_fit (ranges ws a n) ≡ (range_fits (range_at ws a) && (apart (start_of (range_at ws a)) (ranges ws (a + 2) (n - 1)) && ranges_fit (ranges ws (a + 2) (n - 1))))
+unfolding ranges
+fits_step ws a zero h = absurd (omega arith)
+fits_step ws a (suc n) h = let e : suc n - 1 ≡ n = omega arith in rw e (fits_cons (range_at ws a) (ranges ws (a + 2) n))
 
 pub turned_fits : (r : Range) (rs : List Range) → end_of r < start_of r → ranges_fit (r ∷ rs) ≡ false
 unfolding range_fits
@@ -145,6 +243,26 @@ rest_by ws h = rw (eq-eqb (demanded ws) (length ws) h)
 
 -- ---- what the layout gives
 
+pub counts_prologs : (ws : List ℕ) → T (counts_fit ws) → word ws 12 ≤ 16
+unfolding counts_fit
+counts_prologs ws h = leb→le (word ws 12) 16 (and_l (leb (word ws 12) 16) _ h)
+
+pub counts_codes : (ws : List ℕ) → T (counts_fit ws) → word ws 13 ≤ 16
+unfolding counts_fit
+counts_codes ws h = leb→le (word ws 13) 16 (and_l (leb (word ws 13) 16) _ (and_r (leb (word ws 12) 16) _ h))
+
+pub counts_length : (ws : List ℕ) → T (counts_fit ws) → word ws 14 ≤ 1024
+unfolding counts_fit length_fits
+counts_length ws h = go (has_program ws) (and_r (leb (word ws 13) 16) _ (and_r (leb (word ws 12) 16) _ h))
+  where
+    go : (t : Bool) → T (cond t (leb (word ws 14) 1024) (eqb (word ws 14) 0)) → word ws 14 ≤ 1024
+    go true k = leb→le (word ws 14) 1024 k
+    go false k = omega (arith, eqb→eq (word ws 14) 0 k)
+
+pub layout_counts : (ws : List ℕ) → T (pdb_layout ws) → T (counts_fit ws)
+unfolding pdb_layout
+layout_counts ws h = and_l (counts_fit ws) _ (and_r (flags_fit ws) _ (and_r (sizes_fit ws) _ h))
+
 layout_rest : (ws : List ℕ) → T (pdb_layout ws) → T (rest_fits ws)
 unfolding pdb_layout
 layout_rest ws h = and_r (counts_fit ws) _ (and_r (flags_fit ws) _ (and_r (sizes_fit ws) _ h))
@@ -165,6 +283,11 @@ layout_program ws h = and_r (ranges_fit (codes ws)) _ (and_r (ranges_fit (prolog
 pub fits_differ : (rs : List Range) → T (ranges_fit rs) → T (differ rs)
 unfolding ranges_fit
 fits_differ rs h = and_r (all range_fits rs) _ h
+
+-- an entry that is written keeps the layout
+pub written : (last : Option Last) (ws : List ℕ) → pdb_judged last ws ≡ Ok Write → T (pdb_layout ws)
+unfolding pdb_judged
+written last ws h = let w = only_written (pdb_layout ws) (pdb_skipped last ws) (in_reach ws) Reach h in w.0
 
 -- ---- the lines of a part
 
@@ -193,7 +316,7 @@ pub record AreJoined (ps cs : List Range) (p c : Range) : Type 0 where
   pub code : cs ≡ c ∷ []
   pub meet : end_of p ≡ start_of c
 
-ranges_length : (ws : List ℕ) (a n : ℕ) → length (ranges ws a n) ≡ n
+pub ranges_length : (ws : List ℕ) (a n : ℕ) → length (ranges ws a n) ≡ n
 unfolding ranges
 ranges_length ws a zero = refl
 ranges_length ws a (suc n) = ap suc (ranges_length ws (a + 2) n)
@@ -259,6 +382,16 @@ lead_drop : (c : ℕ) (cs : List ℕ) → c ≡ 32 → lead (c ∷ cs) ≡ lead 
 unfolding lead
 lead_drop c cs h = rw (eq-eqb c 32 h)
 
+pub lead_stop : (ws : List ℕ) (a n : ℕ) → 0 < n → (word ws a ≡ 32 → ⊥) → lead (words_from ws a n) ≡ words_from ws a n
+lead_stop ws a n h k = rw (words_step ws a n h) (lead_keep (word ws a) (words_from ws (a + 1) (n - 1)) k)
+
+pub lead_turn : (ws : List ℕ) (a n : ℕ) → 0 < n → word ws a ≡ 32 → lead (words_from ws a n) ≡ lead (words_from ws (a + 1) (n - 1))
+lead_turn ws a n h k = rw (words_step ws a n h) (lead_drop (word ws a) (words_from ws (a + 1) (n - 1)) k)
+
+pub lead_none : (ws : List ℕ) (a n : ℕ) → n ≤ 0 → lead (words_from ws a n) ≡ words_from ws a n
+unfolding words_from lead
+lead_none ws a n h = let e : n ≡ 0 = omega arith in rw e
+
 pub reverse_snoc : (xs : List ℕ) (c : ℕ) → reverse (xs ++ (c ∷ [])) ≡ c ∷ reverse xs
 reverse_snoc xs c = reverse-append xs (c ∷ [])
 
@@ -280,29 +413,47 @@ space_is t h = (bytes_decides t (32 ∷ [])).0 h
 not_space : (c : ℕ) → is_space (c ∷ []) ≡ false → c ≡ 32 → ⊥
 not_space c h e = let k : true ≡ false = rw e at h in cc
 
-pub lead_turn : (t : List ℕ) → is_space (take 1 t) ≡ true → lead (drop 1 t) ≡ lead t
-lead_turn [] h = refl
-lead_turn (c ∷ cs) h = let e : c ∷ [] ≡ 32 ∷ [] = space_is (c ∷ []) h in sym (lead_drop c cs cc)
+pub front_turn : (t : List ℕ) → is_space (take 1 t) ≡ true → lead (drop 1 t) ≡ lead t
+front_turn [] h = refl
+front_turn (c ∷ cs) h = let e : c ∷ [] ≡ 32 ∷ [] = space_is (c ∷ []) h in sym (lead_drop c cs cc)
 
-pub lead_stop : (t : List ℕ) → is_space (take 1 t) ≡ false → lead t ≡ t
+pub front_stop : (t : List ℕ) → is_space (take 1 t) ≡ false → lead t ≡ t
 unfolding lead
-lead_stop [] h = refl
-lead_stop (c ∷ cs) h = lead_keep c cs (not_space c h)
+front_stop [] h = refl
+front_stop (c ∷ cs) h = lead_keep c cs (not_space c h)
 
-pub pad_turn : (t : List ℕ) → is_space (drop (length t - 1) t) ≡ true → unpadded (take (length t - 1) t) ≡ unpadded t
-pad_turn t h =
+pub back_turn : (t : List ℕ) → is_space (drop (length t - 1) t) ≡ true → unpadded (take (length t - 1) t) ≡ unpadded t
+back_turn t h =
     let e : take (length t - 1) t ++ (32 ∷ []) ≡ t =
     ap (λ (u : List ℕ). take (length t - 1) t ++ u) (sym (space_is (drop (length t - 1) t) h)) ∙ take-append-drop (length t - 1) t in
     sym (pad_drop (take (length t - 1) t) 32 refl) ∙ ap unpadded e
 
-pub pad_stop : (t : List ℕ) → is_space (drop (length t - 1) t) ≡ false → unpadded t ≡ t
+pub back_stop : (t : List ℕ) → is_space (drop (length t - 1) t) ≡ false → unpadded t ≡ t
 unfolding lead
-pad_stop t h = go (drop (length t - 1) t) h (length-drop (length t - 1) t) (take-append-drop (length t - 1) t)
+back_stop t h = go (drop (length t - 1) t) h (length-drop (length t - 1) t) (take-append-drop (length t - 1) t)
   where
     go : (u : List ℕ) → is_space u ≡ false → length u ≡ length t - (length t - 1) → take (length t - 1) t ++ u ≡ t → unpadded t ≡ t
     go [] k l e = rw (nil_from_length t (omega arith))
     go (c ∷ []) k l e = sym (ap unpadded e) ∙ pad_keep (take (length t - 1) t) c (not_space c k) ∙ e
     go (c ∷ d ∷ u) k l e = absurd (omega arith)
+
+pub pad_stop : (ws : List ℕ) (a n : ℕ) → 0 < n → (word ws (a + n - 1) ≡ 32 → ⊥) → unpadded (words_from ws a n) ≡ words_from ws a n
+pad_stop ws a n h k = ap unpadded (words_last ws a n h) ∙ pad_keep (words_from ws a (n - 1)) (word ws (a + n - 1)) k ∙ sym (words_last ws a n h)
+
+pub pad_turn : (ws : List ℕ) (a n : ℕ) → 0 < n → word ws (a + n - 1) ≡ 32 → unpadded (words_from ws a n) ≡ unpadded (words_from ws a (n - 1))
+pad_turn ws a n h k = ap unpadded (words_last ws a n h) ∙ pad_drop (words_from ws a (n - 1)) (word ws (a + n - 1)) k
+
+pub pad_none : (ws : List ℕ) (a n : ℕ) → n ≤ 0 → unpadded (words_from ws a n) ≡ words_from ws a n
+unfolding words_from lead
+pad_none ws a n h = let e : n ≡ 0 = omega arith in rw e
+
+-- what the two searches for the ends have found: s spaces first, r words behind them
+pub trimmed : (ws : List ℕ) (p c n s r : ℕ) → p ≡ word ws 12 → c ≡ word ws 13 → n ≡ word ws 14
+    → lead (words_from ws (15 + 2 * p + 2 * c) n) ≡ words_from ws (15 + 2 * p + 2 * c + s) (n - s)
+    → unpadded (words_from ws (15 + 2 * p + 2 * c + s) (n - s)) ≡ words_from ws (15 + 2 * p + 2 * c + s) r
+    → trim (program ws) ≡ words_from ws (15 + 2 * p + 2 * c + s) r
+unfolding trim
+trimmed ws p c n s r e f g h k = ap trim (sym (program_at ws p c n e f g)) ∙ ap unpadded h ∙ k
 
 lead_all : (p : ℕ → Bool) (t : List ℕ) → T (all p t) → T (all p (lead t))
 unfolding lead

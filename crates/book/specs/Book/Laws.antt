@@ -91,6 +91,11 @@ module _ (b : List ℕ) where
       ∙ ap (λ (l : List ℕ). take (first_body (count b)) b ++ l)
       (whole (count b) 0 (first_body (count b)) (right (header_ok b) (bodies_ok b (count b) 0 (first_body (count b))) e) (contents_header b e).room)
 
+  -- the part of the book from a start to an end that code cuts out
+  pub part_is : (i a k : ℕ) → a ≡ start_of b i → k ≡ size_of b i → take (a + k - a) (drop a b) ≡ body b i
+  unfolding body
+  part_is i a k p q = let z : a + k - a ≡ k = omega arith in rw (z, p, q)
+
   listed : (k j i : ℕ) → i < k → bodies_from b j k ≡ take i (bodies_from b j k) ++ (body b (j + i) ∷ drop (suc i) (bodies_from b j k))
   unfolding bodies_from
   listed zero j i h = absurd (omega arith)

@@ -15,8 +15,17 @@ module _ {o : Outcome} {w' t' : List ℕ} {r : Returned} (p : Called o w' t' r) 
   pub exported_none : length c < 2 → Exported o c w' t' c (answer_number r.answer)
   exported_none h = record { number_is = p.number_is; work_is = p.work_is; text_is = p.text_is; counts_is = rw (lt-ltb (length c) 2 h) refl }
 
-  pub exported : 2 ≤ length c → Exported o c w' t' ((r.entries ∷ r.length ∷ []) ++ drop 2 c) (answer_number r.answer)
+  pub exported : 2 ≤ length c → Exported o c w' t' (set (set c 0 r.entries) 1 r.length) (answer_number r.answer)
   exported h = record {
+    number_is = p.number_is;
+    work_is = p.work_is;
+    text_is = p.text_is;
+    counts_is = rw (le-ltb (length c) 2 h, p.entries_is, p.length_is) refl;
+  }
+
+  -- the same of the two as one part
+  pub exported_two : 2 ≤ length c → Exported o c w' t' ((r.entries ∷ r.length ∷ []) ++ drop 2 c) (answer_number r.answer)
+  exported_two h = record {
     number_is = p.number_is;
     work_is = p.work_is;
     text_is = p.text_is;

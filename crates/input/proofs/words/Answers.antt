@@ -1,7 +1,7 @@
 -- `words`: no word is there at first; each turn fills one more in.
 use Rattle.std.proofs.Common.{arith, refl, sym, length, length-take}
 use Rattle.input.specs.Words.{words_of}
-use Rattle.input.specs.Words.Laws.{words_more}
+use Rattle.input.specs.Words.Laws.{fours_more}
 use Rattle.input.proofs.words.Goals as goal
 
 pub returns-in_default-clause-out_after : goal.returns-in_default-clause-out_after
@@ -24,5 +24,5 @@ loop-i-preserved c =
     record {
       inside = omega (arith, length-take n ws);
       filled = rw (l.invariant.filled, c.from_le_bytes.ensures)
-          (words_more c.args.bytes.now c.args.out.now ws l.i n _ c.in-Some.ensures (omega (arith, length-take n ws)) (omega arith) (omega (arith, length-take n ws)));
+          (fours_more c.args.bytes.now c.args.out.now ws l.i n _ c.in-Some.ensures (omega (arith, length-take n ws)) (omega arith) (omega (arith, length-take n ws)));
     }

@@ -15,6 +15,15 @@ use Rattle.records.specs.declared.Compared.{Compared}
 use Rattle.records.specs.declared.Compared.TheVariants.{Same, Different}
 use Rattle.records.specs.Compare.{compared_of, Compares}
 
+-- an answer that is true just where two texts are equal is the test's
+pub eq_answer : (r : Bool) (xs ys : List ℕ) → (r ≡ true → xs ≡ ys) → (xs ≡ ys → r ≡ true) → r ≡ eqw xs ys
+eq_answer true xs ys f g = let e : xs ≡ ys = f refl in rw e (sym (is_true (eqw ys ys) (eqw_refl ys)))
+eq_answer false xs ys f g = go (eqw xs ys) (λ h. absurd (false≢true (g (eqw→eq xs ys (rw h tt)))))
+  where
+    go : (t : Bool) → (t ≡ true → ⊥) → false ≡ t
+    go true h = absurd (h refl)
+    go false h = refl
+
 pub same_texts : (k₁ k₂ : ℕ) (x₁ x₂ : List ℕ) → k₁ ≡ k₂ → (compared_of 0 0 k₁ k₂ x₁ x₂ ≡ Same) ↔ (x₁ ≡ x₂)
 unfolding compared_of
 same_texts k₁ k₂ x₁ x₂ e = rw (eq-eqb k₁ k₂ e) ((λ q. eqw→eq x₁ x₂ (rw (taken (eqw x₁ x₂) q) tt)), λ q. rw (q, is_true (eqw x₂ x₂) (eqw_refl x₂)) refl)

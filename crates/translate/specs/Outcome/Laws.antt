@@ -1,6 +1,6 @@
 -- What the functions of the call promise each other, and that the call keeps its contract.
 use Rattle.std.specs.Prelude.{◌≡◌, refl, List, [], ◌∷◌, ◌++◌, true, false, Result, Ok, Err, MatchResult, length, take, drop, replicate}
-use Rattle.std.proofs.Common.{◌∙◌, add-one, take-append-drop}
+use Rattle.std.proofs.Common.{◌∙◌, add-one, length-take-le, take-append-drop}
 use Prim.Native.Nat.{ℕ, zero, suc, ◌+◌, ◌-◌, ◌≤◌, ◌<◌}
 use native.Mathlib.Omega.{arith}
 use borrow.Author.Tests.{lt-ltb, le-ltb}
@@ -18,6 +18,11 @@ use Rattle.translate.specs.declared.Returned.{Returned}
 use Rattle.translate.specs.Outcome.{entry_of, AREA, LONGEST, MOST_LIMIT, verdict, Walked, onward, walk, walk_of, refused, cleared, outcome, Called}
 
 -- ---- a step, and the loop
+
+-- the text of an entry that is done
+abbrev pub kept : ℕ → List ℕ → List ℕ
+kept zero s = s
+kept (suc n) s = []
 
 -- one entry was tried and is done: its text is put
 pub record Went (e : Entry) (t : List ℕ) (used : ℕ) (t' : List ℕ) (n : Next) : Type 0 where
@@ -57,6 +62,10 @@ going_none b l t bs e h = record { acc = []; put = put_none (omega arith) (omega
 stop : (n done : ℕ) (acc : List ℕ) (rest : Walked) → (n ≡ 0 → ⊥) → onward n done acc rest ≡ record { number = n; done = done; text = acc }
 stop zero done acc rest z = absurd (z refl)
 stop (suc n) done acc rest z = refl
+
+kept_none : (n : ℕ) (s : List ℕ) → (n ≡ 0 → ⊥) → kept n s ≡ []
+kept_none zero s z = absurd (z refl)
+kept_none (suc n) s z = refl
 
 ended : (o : Walked) (t t' : List ℕ) (used : ℕ) (a : Result Unit Refusal) → answer_number a ≡ o.number → Put t 0 o.text t' used → used ≤ length t → length t < MAX
     → Ended o t t' (record { answer = a; entries = o.done; length = used })
@@ -102,6 +111,9 @@ module _ {b : List ℕ} {l : ℕ} {t₀ : List ℕ} {n : Next} {i : ℕ} {bs : L
 
 -- ---- the call
 
+zeros : (n : ℕ) (w a : List ℕ) → n ≤ length w → a ≡ replicate (length (take n w)) 0 → a ++ drop n w ≡ replicate n 0 ++ drop n w
+zeros n w a h e = rw (e, length-take-le n w h)
+
 -- what 1 to 3 return
 abbrev none_done : Refusal → Returned
 none_done r = record { answer = Err r; entries = 0; length = 0 }
@@ -142,6 +154,10 @@ verdict_more : (n room used size : ℕ) → (n ≡ 0 → ⊥) → n ≡ verdict 
 unfolding verdict
 verdict_more zero room used size z = absurd (z refl)
 verdict_more (suc n) room used size z = refl
+
+kept_put : (n : ℕ) (s : List ℕ) {t : List ℕ} {used : ℕ} → (n ≡ 0 → ⊥) → length t < MAX → used ≤ length t → Put t used (kept n s) t used
+kept_put zero s z k h = absurd (z refl)
+kept_put (suc n) s z k h = put_none (omega arith) (omega arith)
 
 module _ (e : Entry) (w w' t : List ℕ) (used : ℕ) where
   pub stops : (r : Refusal) → Refused e w w' r → Stopped e t used t r
