@@ -17,7 +17,7 @@ use crate::{Line, Part};
 use entry::{Last, word};
 use lines::{Rva, StackInfo};
 
-// Where the words stand.
+// Where the words stand. By place: of the head's fifteen words each test reads a few, and a struct would name all of them a second time.
 pub(crate) const TYPE_AT: usize = 0;
 
 pub(crate) const CODE_START_AT: usize = 1;
@@ -118,7 +118,7 @@ impl<'a> Body<'a> {
     }
 }
 
-// Whether a mark is there. Here and below of the words, not of a Body: refusal 4 asks before there is one.
+// Whether a mark is there. As the tests of judge, of the words and not of a Body: refusal 4 asks before there is one.
 pub(crate) fn marked(words: &[u32], at: usize) -> bool
     ensures { result ≡ eqb (word_of words.now at) 1 }
 {
@@ -130,5 +130,5 @@ pub(crate) fn marked(words: &[u32], at: usize) -> bool
 pub(crate) fn has_program(words: &[u32]) -> bool
     ensures { result ≡ has_program words.now }
 {
-    marked(words, PROGRAM_MARK_AT) & marked(words, TABLE_MARK_AT)
+    marked(words, PROGRAM_MARK_AT) && marked(words, TABLE_MARK_AT)
 }

@@ -17,7 +17,7 @@ use refusal::Refusal;
 // The largest that a body may have (docs/BOOK.md).
 const MOST_TYPE: u32 = 4;
 
-const MOST_16_BITS: u32 = 0xffff;
+const MOST_16_BITS: u32 = u16::MAX as u32;
 
 const MOST_RANGES: u32 = 16;
 
@@ -27,9 +27,6 @@ const TILDE: u32 = 126;
 
 // Larger code sizes are skipped.
 const MOST_CODE_SIZE: u32 = 0x7fff_ffff;
-
-// Code and prolog end here at the latest.
-const LAST_ADDRESS: u64 = 0xffff_ffff;
 
 // ---- refusal 4
 
@@ -103,7 +100,7 @@ fn ranges_fit(mut ranges: &[[u32; 2]]) -> bool
 fn is_printable(b: u32) -> bool
     ensures { result ≡ printable b }
 {
-    (SPACE <= b) & (b <= TILDE)
+    (SPACE..=TILDE).contains(&b)
 }
 
 // Each word is a byte of a program. No early end, so that many words are tested at once.
@@ -158,7 +155,7 @@ impl<'a> Body<'a> {
 
     // ---- skipping and refusal 6
 
-    // Code sizes close to the largest number are known to stand for something else, at the end of a function's code.
+    // A code size near the largest number is no size: such entries stand near the end of a function's code, and nobody says what they mean.
     // And the frame table often has series of entries that are alike: only the first of them is written.
     #[tactic(auto, unfolding(crate::specs::Pdb::pdb_skipped, crate::specs::Pdb::repeats))]
     fn skipped(self, last: Option<Last>) -> bool
@@ -172,10 +169,10 @@ impl<'a> Body<'a> {
     fn reach(self) -> bool
         ensures { result ≡ in_reach self.entry.words.now }
     {
-        let start = word(self.words, CODE_START_AT) as u64;
-        let code_size = word(self.words, CODE_SIZE_AT) as u64;
-        let prolog_size = word(self.words, PROLOG_SIZE_AT) as u64;
-        start + prolog_size <= LAST_ADDRESS && start + code_size <= LAST_ADDRESS
+        let start = word(self.words, CODE_START_AT);
+        let code_size = word(self.words, CODE_SIZE_AT);
+        let prolog_size = word(self.words, PROLOG_SIZE_AT);
+        start.checked_add(prolog_size).is_some() && start.checked_add(code_size).is_some()
     }
 
     // What becomes of an entry whose layout fits: refused by 6, skipped, or written.
