@@ -69,8 +69,8 @@ fn header_ok(book: &[u32]) -> bool
     ensures { result ≡ header_ok book.now }
 {
     let n = count_of(book);
-    let sized = (2 <= book.len()) & (book.len() <= MOST_WORDS);
-    sized & is_kind(kind_of(book)) & (n <= MOST_BODIES && 2 + 2 * n <= book.len())
+    let sized = (2..=MOST_WORDS).contains(&book.len());
+    sized && is_kind(kind_of(book)) && n <= MOST_BODIES && 2 + 2 * n <= book.len()
 }
 
 // The bodies of n contents pairs follow each other without gaps and end the book.

@@ -11,7 +11,7 @@ ghost use Rattle.exports.specs.Exports.{Exported, FillExported};
 
 use refusal::{Refusal, answer_number};
 
-// A book into STACK lines: the number is returned; entries and length are stored where `counts` has room for two.
+// A book into STACK lines: the refusal's number is returned, 0 where there is none; entries and length are stored where `counts` has room for two.
 #[unsafe(no_mangle)]
 pub extern "C" fn stacklines_translate(
     book: &[u32],
@@ -29,7 +29,7 @@ pub extern "C" fn stacklines_translate(
     answer_number(r.answer)
 }
 
-// What a call filled, stored where `count` has a place; the number is handed back.
+// What a call filled, stored where `count` has a place; the refusal's number is returned, 0 where there is none.
 fn counted(answer: Result<usize, Refusal>, count: &mut [u64]) -> u32
     ensures number { result ≡ answer_number answer }
     ensures stored { count.new ≡ set count.old 0 (filled_by answer) }
@@ -40,7 +40,8 @@ fn counted(answer: Result<usize, Refusal>, count: &mut [u64]) -> u32
     answer_number(answer)
 }
 
-// The unwind bytes of an x64 function into the words of its body: the number is returned, and the words filled are counted.
+// The unwind bytes of an x64 function into the words of its body: the refusal's number is returned, 0 where there is none, and the words filled are
+// counted.
 #[unsafe(no_mangle)]
 pub extern "C" fn stacklines_decode_x64(
     bytes: &[u8],
@@ -56,7 +57,8 @@ pub extern "C" fn stacklines_decode_x64(
     counted(answer, count)
 }
 
-// The unwind codes of an ARM64 function into the words of its body: the number is returned, and the words filled are counted.
+// The unwind codes of an ARM64 function into the words of its body: the refusal's number is returned, 0 where there is none, and the words filled
+// are counted.
 #[unsafe(no_mangle)]
 pub extern "C" fn stacklines_decode_arm64(
     bytes: &[u8],

@@ -7,6 +7,7 @@ ghost use Rattle.input.specs.Words.{words_of, word_count, IsNoBook, AreWords, Re
 
 use std::io::Read;
 
+// The bytes of the longest book.
 const MOST_BYTES: usize = 65536;
 
 // The words of a book, four bytes each; none where the bytes are no book.
@@ -24,7 +25,8 @@ fn book_words(bytes: &[u8]) -> Option<&[[u8; 4]]>
     Some(words)
 }
 
-// The words of the bytes, as many as out takes, and their number; none, which is refused 3, where the bytes are no book.
+// The words of the bytes, as many as out takes, and their number. Where the bytes are no book, none, and no Option: refusal 3 turns 0 words down,
+// and a caller needs no other answer.
 pub fn words(bytes: &[u8], out: &mut [u32]) -> usize
     ensures prefix_len { result ≤ length out.new }
     ensures value { result ≡ word_count (length bytes.now) (length out.old) }
@@ -58,13 +60,13 @@ pub fn read_full<R: Read>(reader: &mut R, bytes: &mut [u8]) -> usize
     done
 }
 
-// The words of a book that a reader gives; one byte more than a book has is read, so that a longer input is none.
+// The words of a book that a reader gives; one byte more than the longest book has is read, so that a longer input is seen to be none.
 pub fn read_book<R: Read>(reader: &mut R, book: &mut [u32]) -> usize
     ensures prefix_len { result ≤ length book.new }
     ensures read { Read book.old book.new result }
     ensures given { Given (R.remaining reader.old) (R.remaining reader.new) book.old book.new result }
 {
-    let mut bytes = [0u8; 65537];
+    let mut bytes = [0u8; MOST_BYTES + 1];
     let n = read_full(reader, &mut bytes);
     words(&bytes[..n], book)
 }

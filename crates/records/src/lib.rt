@@ -20,7 +20,8 @@ pub enum Compared {
     Refused,
 }
 
-// What a call made of a book: whether it was refused, the book's kind, and its lines.
+// What a call made of a book: whether it was refused, the book's kind, and its lines. The kind is the word of the book: one that is refused may have
+// a number that no kind has.
 #[derive(Clone, Copy)]
 struct Made<'a> {
     answer: Result<(), Refusal>,
@@ -45,6 +46,7 @@ fn compare(a: Made, b: Made) -> Compared
 }
 
 // Both books are translated; where neither is refused and the kinds are equal, the texts are compared.
+// Eight parameters: as with text's writers, a struct for each book would hold lent buffers, of which the lender knows nothing afterwards.
 pub fn same_records(
     book_a: &[u32],
     limit_a: u32,

@@ -28,7 +28,7 @@ pub struct Returned {
     pub length: usize,
 }
 
-// After an entry: where the text goes on, and what the entry leaves to the next.
+// After an entry: where the text goes on, and what the entry leaves to the next. Not entry's Wrote, whose place is in the work area.
 #[derive(Clone, Copy)]
 pub struct Next {
     pub used: usize,
@@ -104,6 +104,7 @@ fn entries(book: Book<'_>, limit: u32, work: &mut [u8; AREA], text: &mut [u8]) -
         used: 0,
         last: None,
     };
+    // Counted here: behind the loop an enumerate has no number.
     let mut entries = 0;
     for body in book.bodies() {
         match step(kind, limit, body, work, text, next) {
