@@ -158,7 +158,8 @@ impl<'a> Body<'a> {
         word(self.words, INFOS_AT)
     }
 
-    // The words from info k on, counted from 0; at the count, none.
+    // The words from info k on, counted from 0; at the count, none. Here and in has_undecodable by split, without an iterator of infos: with its list
+    // in specs/ and its proofs it would be longer than the two loops.
     pub(crate) fn from_info(self, k: u32) -> &'a [u32]
         requires { k ≤ get_or self.words.now 3 0 }
         ensures { result.now ≡ drop (info_at self.entry.words.now k) self.entry.words.now }

@@ -73,6 +73,7 @@ impl<'a> Body<'a> {
         let infos @ 1..=MOST_INFOS = word(words, INFOS_AT) else {
             return None;
         };
+        // By split: an iterator would have to give infos that are refused.
         let mut rest = &words[BODY_HEAD..];
         for _ in 0..infos {
             let (info, behind) = Info::split(rest)?;
@@ -91,7 +92,7 @@ impl<'a> Body<'a> {
 // ---- entries that are skipped
 
 impl<'a> Body<'a> {
-    // An undecodable operation in the first infos, as many as the limit allows.
+    // An undecodable operation in the first infos, as many as the limit allows. By split, as from_info.
     fn has_undecodable(self, limit: u32) -> bool
         ensures { result ≡ undecodable_infos self.entry.words.now (min limit (get_or self.entry.words.now 3 0)) 4 }
     {
