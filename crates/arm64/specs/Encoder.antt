@@ -40,6 +40,10 @@ Encoder·open = Unit {0}
 unfoldable pub step_text : BreakpadEncoder → List ℕ
 step_text e = given e.cfa_touched (cfa_text e.stack_size) ++ saves_text e.saves
 
+encoder_text : (T : ℕ) (p : Saved) (cfa : Bool) (s : Saves) → step_text (encoder T p cfa s) ≡ given cfa (cfa_text T) ++ saves_text s
+unfolding encoder step_text
+encoder_text T p cfa s = refl
+
 pub step_text_lem : (e : BreakpadEncoder) (o : Op) → step_text (stepped e o) ≡ op_text e.stack_size e.last o
 unfolding encoder stepped step_text op_text
 step_text_lem e o = refl
@@ -92,9 +96,12 @@ width_small l = go (ltb l 2)
     go true = omega arith
     go false = omega arith
 
+near_none : Near no_pair
+near_none = record { register = omega arith; up = omega arith; down = omega arith }
+
 pub small_start : Small start_encoder
 unfolding encoder start_encoder
-small_start = record { total = omega arith; last = record { register = omega arith; up = omega arith; down = omega arith }; saved = tt }
+small_start = record { total = omega arith; last = near_none; saved = tt }
 
 near : (p : Saved) → T (saved_fits p) → p.b < 2 ^ 32 → Near p
 unfolding saved_fits

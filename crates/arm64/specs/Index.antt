@@ -2,18 +2,20 @@
 use Rattle.std.specs.Prelude.{◌≡◌, refl, ℕ, zero, suc, ◌+◌, ◌-◌, ◌*◌, ◌/◌, ◌^◌, ◌≤◌, ◌<◌, Bool, true, false, not, cond, ◌&&◌, ◌||◌, T, length, map, take, drop, ltb, leb, eqb, Ok, Err}
 use Rattle.std.specs.List.{push, before_first, position_or_len, list_all, list_any}
 use Rattle.std.specs.Simd.{first_chunks}
-use Rattle.std.proofs.Common.{sym, ap, ◌∙◌, arith, le-leb, lt-ltb, le-ltb, ltb→lt, eq-eqb, ne_eqb, add-zero, one-add, drop-drop}
+use Rattle.std.proofs.Common.{sym, ap, ◌∙◌, arith, le-leb, lt-ltb, le-ltb, ltb→lt, leb→le, eq-eqb, ne_eqb, add-zero, one-add, drop-drop}
 use Rattle.std.proofs.lemmas.List.{map-append, reverse-append, get_or-take, get_or-drop}
 use mathlib.Core.List.{List, [], ◌∷◌, reverse}
 use Rattle.std.proofs.Math.Decide.{dec_le, dec_lt}
 use Rattle.std.proofs.lemmas.Bool.{lt-leb}
 use Rattle.std.proofs.Math.IntN.{sub_ℕ}
+use Rattle.text.specs.Tests.{and_l, one_less}
 use Rattle.lines.specs.Reach.{inside}
 use Rattle.refusal.specs.declared.Refusal.TheVariants.{Reach}
 use Rattle.entry.specs.declared.Fate.TheVariants.{Skip, Write}
 use Rattle.arm64.specs.declared.Op.{Op}
 use Rattle.arm64.specs.declared.Op.TheVariants.{AllocStack, SaveReg, SaveRegPreindexed, SaveRegPair, SaveRegPairPreindexed, SaveLrPair, SaveNext, Other, End, Undecodable}
 use Rattle.entry.specs.Entry.{word}
+use Rattle.entry.specs.Entry.Laws.{only_written}
 use Rattle.arm64.specs.Arm64.{op_of, words_of, counting, op_count, ops, no_pair, in_reach, op_fits, ops_fit, arm_layout, undecodable, arm_skipped, arm_judged, run, arm_text}
 
 -- the operation of four words
@@ -160,6 +162,20 @@ ops_fit_fours ws a (suc n) =
         let f : a + 4 + 4 * n ≡ a + 4 * suc n = omega arith in
         rw (e, f, first_four ws a, word_four ws a 2 (omega arith)) (together (op_fits (word ws a) (word ws (a + 2))) _ _)
 
+-- ---- one step of each
+
+pub ops_fit_step : (ws : List ℕ) (a n : ℕ) → 0 < n → ops_fit ws a n ≡ (op_fits (word ws a) (word ws (a + 2)) && ops_fit ws (a + 4) (n - 1))
+unfolding ops_fit
+ops_fit_step ws a n h = ap (ops_fit ws a) (one_less n h)
+
+pub undecodable_step : (ws : List ℕ) (a n : ℕ) → 0 < n → undecodable ws a n ≡ cond (eqb (word ws a) 9) false (eqb (word ws a) 10 || undecodable ws (a + 4) (n - 1))
+unfolding undecodable
+undecodable_step ws a n h = ap (undecodable ws a) (one_less n h)
+
+pub layout_few : (ws : List ℕ) → T (arm_layout ws) → op_count ws ≤ 1024
+unfolding arm_layout
+layout_few ws h = leb→le (op_count ws) 1024 (and_l (leb (op_count ws) 1024) _ h)
+
 -- the words of the operations that count
 abbrev pub counting_of : List ℕ → List (List ℕ)
 counting_of ws = counting_words ws 3 (op_count ws)
@@ -236,17 +252,25 @@ module _ {ws : List ℕ} {address size : ℕ} {os : List (List ℕ)} (h : Holds 
 
 -- ---- differences inside signed 32 bits
 
-pub inside_is : (a b : ℕ) → (ltb (a - b) (2 ^ 31) && leb (b - a) (2 ^ 31)) ≡ inside (sub_ℕ a b)
+pub inside_below : (a b : ℕ) → a < b → leb (b - a) (2 ^ 31) ≡ inside (sub_ℕ a b)
 unfolding inside
+inside_below a b h = rw (lt-ltb a b h) (go (dec_le (b - a) (2 ^ 31)))
+  where
+    go : Dec (b - a ≤ 2 ^ 31) → leb (b - a) (2 ^ 31) ≡ ltb (b - suc a) (2 ^ 31)
+    go (yes p) = rw (le-leb (b - a) (2 ^ 31) p, lt-ltb (b - suc a) (2 ^ 31) (omega arith))
+    go (no p) = rw (lt-leb (b - a) (2 ^ 31) (omega arith), le-ltb (b - suc a) (2 ^ 31) (omega arith))
+
+pub inside_above : (a b : ℕ) → b ≤ a → ltb (a - b) (2 ^ 31) ≡ inside (sub_ℕ a b)
+unfolding inside
+inside_above a b h = rw (le-ltb a b h)
+
+-- both at once: one of the tests holds of 0
+pub inside_is : (a b : ℕ) → (ltb (a - b) (2 ^ 31) && leb (b - a) (2 ^ 31)) ≡ inside (sub_ℕ a b)
 inside_is a b = elim (dec_lt a b) [
-  | yes p ↦ let z : a - b ≡ 0 = omega arith in rw (lt-ltb a b p, z) (below (dec_le (b - a) (2 ^ 31)))
-  | no p ↦ let z : b - a ≡ 0 = omega arith in rw (le-ltb a b (omega arith), z) (whole (ltb (a - b) (2 ^ 31)))
+  | yes p ↦ let z : a - b ≡ 0 = omega arith in ap (λ (d : ℕ). ltb d (2 ^ 31) && leb (b - a) (2 ^ 31)) z ∙ inside_below a b p
+  | no p ↦ let z : b - a ≡ 0 = omega arith in ap (λ (d : ℕ). ltb (a - b) (2 ^ 31) && leb d (2 ^ 31)) z ∙ whole (ltb (a - b) (2 ^ 31)) ∙ inside_above a b (omega arith)
 ]
   where
-    below : Dec (b - a ≤ 2 ^ 31) → leb (b - a) (2 ^ 31) ≡ ltb (b - suc a) (2 ^ 31)
-    below (yes p) = rw (le-leb (b - a) (2 ^ 31) p, lt-ltb (b - suc a) (2 ^ 31) (omega arith))
-    below (no p) = rw (lt-leb (b - a) (2 ^ 31) (omega arith), le-ltb (b - suc a) (2 ^ 31) (omega arith))
-
     whole : (t : Bool) → (t && true) ≡ t
     whole true = refl
     whole false = refl
@@ -257,3 +281,9 @@ inside_bound a b h = elim (dec_lt a b) [
   | yes p ↦ omega arith
   | no p ↦ let q : b ≤ a = omega arith in omega (arith, ltb→lt (a - b) (2 ^ 31) (rw (le-ltb a b q) at h))
 ]
+
+-- ---- an entry that is written
+
+pub written : (ws : List ℕ) → arm_judged ws ≡ Ok Write → T (arm_layout ws) × T (in_reach (word ws 0) 0 0 no_pair (ops ws))
+unfolding arm_judged
+written ws h = only_written (arm_layout ws) (arm_skipped ws) (in_reach (word ws 0) 0 0 no_pair (ops ws)) Reach h

@@ -7,7 +7,7 @@ use Rattle.arm64.specs.declared.Op.{Op}
 use Rattle.arm64.specs.declared.Op.TheVariants.{AllocStack, SaveReg, SaveRegPreindexed, SaveRegPair, SaveRegPairPreindexed, SaveLrPair, SaveNext, Other, End, Undecodable}
 use Rattle.arm64.specs.Arm64.{words_of}
 use Rattle.arm64.specs.Index.{op_at, words_read, words_length}
-use Rattle.unwind_codes.specs.UnwindCodes.{any_reg, Code, code, codes, fits, bits_fit, find, code_of, count, behind, X, Z, meant, number, byte}
+use Rattle.unwind_codes.specs.UnwindCodes.{scalable, any_reg, Code, code, codes, fits, bits_fit, find, code_of, count, behind, X, Z, meant, number, byte}
 use Rattle.unwind_codes.specs.UnwindCodes.{size_at, operation_at, ends, list_in, list, op_words}
 
 -- ---- what the table is held to
@@ -219,6 +219,15 @@ others_one b p q h =
     subst (λ (j : ℕ). T (longer j || eqb 1 (code_of j).size)) e (at 32 (λ i. longer (224 + i) || eqb 1 (code_of (224 + i)).size) tt (b - 224) (omega arith)) in
     eqb→eq 1 (code_of b).size (rw h at t)
 
+-- a scalable register's save ends the list where it is reserved
+pub ends_scalable : (s : ℕ) → eqb (s / 4 % 8) 4 ≡ ends (scalable s)
+unfolding words_of
+ends_scalable s = go (eqb (s / 4 % 8) 4)
+  where
+    go : (t : Bool) → t ≡ ends (cond t Undecodable Other)
+    go true = refl
+    go false = refl
+
 -- a code has a byte at least, and five at most
 sizes_fit_lem : (cs : List Code) → T (all (λ c. leb 1 c.size && leb c.size 5) cs) → (b : ℕ) → (1 ≤ (find cs b).size) × ((find cs b).size ≤ 5)
 unfolding find
@@ -370,9 +379,9 @@ alike_same true false h = absurd h
 alike_same false true h = absurd h
 alike_same false false h = refl
 
-pub ends_early : (b n : ℕ) → b < 228 → false ≡ ends (meant (code_of b) n)
+pub ends_early : (b n : ℕ) → b < 228 → ends (meant (code_of b) n) ≡ false
 unfolding words_of codes bits_fit find meant
-ends_early b n h = sym (is_false (ends (meant (code_of b) n)) (at 228 (λ j. not (ends (meant (code_of j) n))) tt b h))
+ends_early b n h = is_false (ends (meant (code_of b) n)) (at 228 (λ j. not (ends (meant (code_of j) n))) tt b h)
 
 -- from E4 on all but save_next, save_any_reg and pac_sign_lr
 abbrev pub late_ends : ℕ → Bool

@@ -111,7 +111,8 @@ module _ (p : ℕ → ℕ → ℕ → ℕ → Bool) (each : (bs : List ℕ) → 
 
 -- ---- save_any_reg, by its cases
 
-any_cases : (P : Op → Type 0) (s t : ℕ) → P Undecodable → P Other → (s < 128 → (p x : Bool) (v : ℕ) → P (any_save p x (t / 64) (s % 32) v)) → P (any_reg s t)
+any_cases : (P : Op → Type 0) (s t : ℕ) → P Undecodable → P Other
+    → (s < 128 → P (any_save (eqb (s / 64) 1) (eqb (s / 32 % 2) 1) (t / 64) (s % 32) (any_reg_offset (eqb (s / 64) 1) (eqb (s / 32 % 2) 1) (t / 64) (t % 64)))) → P (any_reg s t)
 unfolding any_reg
 any_cases P s t u o f = go (leb 128 s) (eqb (t / 64) 3) (eqb (s / 4 % 8) 4) refl
   where
@@ -121,20 +122,20 @@ any_cases P s t u o f = go (leb 128 s) (eqb (t / 64) 3) (eqb (s / 4 % 8) 4) refl
     x : Bool
     x = eqb (s / 32 % 2) 1
 
-    v : ℕ
-    v = any_reg_offset p x (t / 64) (t % 64)
-
-    go : (a b c : Bool) → leb 128 s ≡ a → P (cond a Undecodable (cond b (cond c Undecodable Other) (any_save p x (t / 64) (s % 32) v)))
+    go : (a b c : Bool) → leb 128 s ≡ a
+        → P (cond a Undecodable (cond b (cond c Undecodable Other) (any_save p x (t / 64) (s % 32) (any_reg_offset p x (t / 64) (t % 64)))))
     go true b c e = u
     go false true true e = u
     go false true false e = o
-    go false false c e = f (leb-false 128 s e) p x v
+    go false false c e = f (leb-false 128 s e)
 
 -- ---- unused words
 
 any_unused : (s t : ℕ) → T (test unused_zero (any_reg s t))
 unfolding unused_zero words_of
-any_unused s t = any_cases (λ (o : Op). T (test unused_zero o)) s t tt tt (λ h p x v. go p x v)
+any_unused s t =
+    any_cases (λ (o : Op). T (test unused_zero o)) s t tt tt
+    (λ h. go (eqb (s / 64) 1) (eqb (s / 32 % 2) 1) (any_reg_offset (eqb (s / 64) 1) (eqb (s / 32 % 2) 1) (t / 64) (t % 64)))
   where
     go : (p x : Bool) (v : ℕ) → T (test unused_zero (any_save p x (t / 64) (s % 32) v))
     go true true v = tt
@@ -158,7 +159,9 @@ kind_fits k l r v = op_fits k r
 
 any_fits : (s t : ℕ) → T (test kind_fits (any_reg s t))
 unfolding op_fits words_of
-any_fits s t = any_cases (λ (o : Op). T (test kind_fits o)) s t tt tt (λ h p x v. go p x v)
+any_fits s t =
+    any_cases (λ (o : Op). T (test kind_fits o)) s t tt tt
+    (λ h. go (eqb (s / 64) 1) (eqb (s / 32 % 2) 1) (any_reg_offset (eqb (s / 64) 1) (eqb (s / 32 % 2) 1) (t / 64) (t % 64)))
   where
     fits : T (leb (s % 32) 255)
     fits = le→leb (s % 32) 255 (omega arith)

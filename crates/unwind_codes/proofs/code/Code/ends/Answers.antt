@@ -1,11 +1,11 @@
 -- `ends`: by the first byte, save_any_reg by its other two.
-use Rattle.std.proofs.Common.{arith, ap, get_or}
+use Rattle.std.proofs.Common.{arith, ap, sym, get_or}
 use Rattle.unwind_codes.specs.UnwindCodes.{ends}
 use Rattle.unwind_codes.specs.Index.{three, any_at, ends_early, ends_late, ends_at}
 use Rattle.unwind_codes.proofs.code.Code.ends.Goals as goal
 
 pub returns-then-b-lt-END_CODE : goal.returns-then-b-lt-END_CODE
-returns-then-b-lt-END_CODE c = ends_at c.args.self.bytes.now 0 (λ n. ends_early (get_or c.args.self.bytes.now 0 0) n (omega arith))
+returns-then-b-lt-END_CODE c = ends_at c.args.self.bytes.now 0 (λ n. sym (ends_early (get_or c.args.self.bytes.now 0 0) n (omega arith)))
 
 pub bounds-bytes-1 : goal.bounds-bytes-1
 bounds-bytes-1 c = omega (arith, three (get_or c.args.self.bytes.now 0 0) (omega arith), c.args.self.whole)
