@@ -42,7 +42,7 @@ fn pair(book: &[u32], i: usize) -> (usize, usize)
     (word(book, at) as usize, word(book, at + 1) as usize)
 }
 
-// Where body i starts.
+// Where body i starts. For callers that want one body alone; the loops here and in bodies take the pairs in turn.
 pub fn start_of(book: &[u32], i: usize) -> usize
     ensures { result ≡ start_of book.now i }
 {
@@ -74,17 +74,18 @@ fn header_ok(book: &[u32]) -> bool
 }
 
 // The bodies of n contents pairs follow each other without gaps and end the book.
-#[tactic(auto, using(crate::proofs::Laws::apart, crate::proofs::Laws::past, crate::proofs::Laws::onward, crate::proofs::Laws::finished))]
+#[tactic(auto, using(crate::proofs::Laws::pair_apart, crate::proofs::Laws::pair_past, crate::proofs::Laws::pair_onward, crate::proofs::Laws::pair_few, crate::proofs::Laws::pairs_finished))]
 fn bodies_ok(book: &[u32], n: usize) -> bool
     requires { (n ≤ 1024) × (first_body n ≤ length book.now) }
     ensures { result ≡ bodies_ok book.now n 0 (first_body n) }
 {
     let mut at = 2 + 2 * n;
-    for i in 0..n {
-        if start_of(book, i) != at {
+    let (pairs, _) = book[2..at].as_chunks::<2>();
+    for &[start, size] in pairs {
+        if start as usize != at {
             return false;
         }
-        let k = size_of(book, i);
+        let k = size as usize;
         if book.len() - at < k {
             return false;
         }
