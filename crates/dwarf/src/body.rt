@@ -22,7 +22,8 @@ ghost use Rattle.dwarf.specs.Dwarf.{load_address, first_start, last_end, fde_of}
 use crate::{CfaRule, Fde, RegisterRule};
 use entry::word;
 
-// How many words stand in front of the rows, and where those that are read alone do.
+// How many words stand in front of the rows, and where those that are read alone do: by place, since contracts name the words of the whole body, and
+// a field for the head would need a fact that ties it to them.
 pub(crate) const HEAD_WORDS: usize = 7;
 
 pub(crate) const FAMILY_AT: usize = 0;
@@ -58,7 +59,7 @@ pub(crate) const CFA_REGISTER: u32 = 0;
 
 pub(crate) const CFA_EXPRESSION: u32 = 1;
 
-// Register numbers as values of rules end here.
+// Register numbers as values of rules, which have 64 bits, end here.
 pub(crate) const REGISTER_VALUES: u64 = 65536;
 
 // An initial address that marks an entry as void.

@@ -162,7 +162,7 @@ fn meet_rules(rules: &[RuleWords], met: &mut Registers) -> bool
 fn registers_fit(rows: Rows) -> bool
     ensures { result ≡ leb (distinct [] (registers (rules_of (rows_left rows.entry)))) 64 }
 {
-    // With so few words behind the rows' own there are at most 64 rules.
+    // Without the rows' heads there are so few words that they hold at most 64 rules.
     if rows.words.len() <= RULE_WORDS * MOST_REGISTERS + ROW_WORDS * rows.left as usize {
         return true;
     }

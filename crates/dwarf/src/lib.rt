@@ -19,7 +19,8 @@ use entry::{Fate, Last, Wrote};
 use refusal::Refusal;
 use write::put_entry;
 
-// A register's rule in a row; the value is 0 where the kind uses none. Kind and value stay numbers: document 01's form keeps them in arrays.
+// A register's rule in a row; the value is 0 where the kind uses none. Kind and value stay two numbers: document 01 has an array of each, so an enum
+// would be taken apart and made again at each rule.
 #[derive(Clone, Copy)]
 pub struct RegisterRule {
     pub register: u32,
@@ -69,7 +70,7 @@ pub struct RowState {
     pub rules: RuleCache,
 }
 
-// Where the text goes on, and what is last seen there; a pair's fields would have no names.
+// Where the text goes on, and what is last seen there: by value from row to row, as document 01 has it. A pair's fields would have no names.
 #[derive(Clone, Copy)]
 pub struct Placed {
     pub at: usize,

@@ -1,5 +1,5 @@
 // The lines of a DWARF entry, one for each row that has something new: the CFA's rule and the registers' rules that differ from those last seen.
-// The rules of a row whose CFA is not written are looked at twice: first for whether one of them is.
+// The rules of a row whose CFA is not written are looked at twice: first for whether one of them is. Writers take room and place, as text's do.
 ghost use Rattle.std.specs.Prelude.{◌≡◌, [], ◌++◌, ◌+◌, ◌<◌, ◌≤◌, cond, get_or, take, T, ◌==◌, position};
 ghost use Rattle.std.specs.List.{list_any};
 ghost use Rattle.text.specs.Text.{Put};
@@ -18,13 +18,15 @@ use names::{cfi_register_name, has_cfi_name};
 use rules::{Form, Reg, Rule, cfa_name, put_rule, ra_name};
 use text::put_byte;
 
-// The families whose return address is in a register at a function's start: from the first of these to the second.
+// The families (numbers, as in tables) whose return address is in a register at a function's start: from the first of these to the second.
 const FIRST_IN_REGISTER: u32 = 3;
 
 const LAST_IN_REGISTER: u32 = 9;
 
 // ---- the rules last seen
 
+// That there is room for the registers that rules add is asked in five contracts: it is a fact of the cache and of the rules ahead, and a struct of
+// both would be made anew at each rule.
 impl RuleCache {
     #[tactic(auto, unfolding(crate::specs::Cache::lookup, crate::specs::Cache::first_in, crate::specs::Dwarf::nothing_seen))]
     fn start() -> RuleCache
@@ -108,7 +110,7 @@ fn register_form(family: u32, register: u32) -> Option<Form>
     has_cfi_name(family, register).then(|| Form::Register(Reg::Cfi(family, register)))
 }
 
-// The value is a register; the tables have none past 65,535.
+// The value is a register; the tables have none past 65,535, and so none that is no u32.
 #[tactic(auto, using(crate::proofs::Forms::name_far), unfolding(text::specs::Tests::any, crate::specs::Cache::formed))]
 fn value_form(family: u32, value: u64) -> Option<Form>
     ensures { Forms (cfi_name family value) result }
