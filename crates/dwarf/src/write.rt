@@ -132,22 +132,6 @@ fn rule_form(family: u32, rule: RegisterRule) -> Option<Form>
     }
 }
 
-// The return register is called .ra, any other by its table name.
-#[tactic(auto, using(crate::proofs::Forms::named_some, crate::proofs::Forms::no_name, crate::proofs::Forms::no_form), unfolding(crate::specs::Dwarf::rule_bytes, crate::specs::Cache::formatted, crate::specs::Cache::formed, lines::specs::Lines::rule_text, rules::specs::Rules::rule_of, text::specs::Tests::any))]
-fn format_rule(fde: Fde, rule: RegisterRule) -> Option<Rule>
-    ensures { formatted result ≡ rule_bytes fde.family fde.ra rule }
-{
-    let form = rule_form(fde.family, rule)?;
-    if rule.register == fde.ra {
-        let name = ra_name();
-        return Some(Rule { name, form });
-    }
-    has_cfi_name(fde.family, rule.register).then(|| {
-        let name = cfi_register_name(fde.family, rule.register);
-        Rule { name, form }
-    })
-}
-
 // " .cfa: R N +"; an expression writes nothing.
 #[tactic(auto, using(crate::proofs::Ints::cast_is), unfolding(crate::specs::Dwarf::cfa_bytes, crate::specs::Cache::formatted, lines::specs::Lines::form_text, lines::specs::Lines::rule_text, rules::specs::Rules::rule_of, rules::specs::Rules::reg_name, rules::specs::Rules::form_of))]
 fn format_cfa(family: u32, cfa: CfaRule) -> Option<Rule>
@@ -160,19 +144,6 @@ fn format_cfa(family: u32, cfa: CfaRule) -> Option<Rule>
         let reg = Reg::Cfi(family, register);
         let form = Form::RegisterPlus(reg, offset.cast_signed());
         let name = cfa_name();
-        Rule { name, form }
-    })
-}
-
-// Where the return address is in a register, families 3 to 9: " .ra: Q".
-#[tactic(auto, unfolding(crate::specs::Dwarf::ra_bytes, crate::specs::Cache::formatted, lines::specs::Lines::form_text, lines::specs::Lines::rule_text, rules::specs::Rules::rule_of, rules::specs::Rules::reg_name, rules::specs::Rules::form_of))]
-fn format_default(fde: Fde) -> Option<Rule>
-    ensures { formatted result ≡ ra_bytes fde.family fde.ra }
-{
-    let kept = (FIRST_IN_REGISTER..=LAST_IN_REGISTER).contains(&fde.family);
-    (kept && has_cfi_name(fde.family, fde.ra)).then(|| {
-        let name = ra_name();
-        let form = Form::Register(Reg::Cfi(fde.family, fde.ra));
         Rule { name, form }
     })
 }
@@ -200,24 +171,6 @@ fn put_formatted(out: &mut [u8], at: usize, rule: Option<Rule>) -> usize
 
 // ---- a row
 
-// Whether a rule can be written: it has the names that it needs.
-#[tactic(auto, using(crate::proofs::Forms::some_any))]
-fn is_writable(fde: Fde, rule: RegisterRule) -> bool
-    ensures { result ≡ any (rule_bytes fde.family fde.ra rule) }
-{
-    format_rule(fde, rule).is_some()
-}
-
-// Whether a rule of a row is written: it differs from the one last seen, and can be.
-fn any_new(rules: &[RuleWords], fde: Fde, cache: &RuleCache) -> bool
-    ensures { result ≡ list_any (new_in fde.family fde.ra (lookup cache.now)) rules.now }
-{
-    rules.iter().any(|words| {
-        let rule = RegisterRule::from(*words);
-        cache.differs(rule) && is_writable(fde, rule)
-    })
-}
-
 // Whether a register's rule differs from the one last seen.
 fn is_moved(rules: &[RuleWords], register: u32, cache: &RuleCache) -> bool
     ensures { result ≡ list_any (moved_in register (lookup cache.now)) rules.now }
@@ -228,92 +181,141 @@ fn is_moved(rules: &[RuleWords], register: u32, cache: &RuleCache) -> bool
     })
 }
 
-// The rules of a row that differ from those last seen; from now on they are these.
-fn put_rules(
-    out: &mut [u8],
-    at: usize,
-    rules: &[RuleWords],
-    fde: Fde,
-    cache: &mut RuleCache,
-) -> usize
-    requires { cache.old.count + fresh (lookup cache.old) (rules_in rules.now) ≤ 64 }
-    ensures puts { Put out.old at (ran_rules fde.family fde.ra (lookup cache.old) (rules_in rules.now)) out.new result }
-    ensures sees { Remembers cache.old (rules_in rules.now) cache.new }
-{
-    let mut p = at;
-    for words in rules {
-        let rule = RegisterRule::from(*words);
-        let changed = cache.remember(rule);
-        if changed {
-            p = put_formatted(out, p, format_rule(fde, rule));
+impl Fde {
+    // The return register is called .ra, any other by its table name.
+    #[tactic(auto, using(crate::proofs::Forms::named_some, crate::proofs::Forms::no_name, crate::proofs::Forms::no_form), unfolding(crate::specs::Dwarf::rule_bytes, crate::specs::Cache::formatted, crate::specs::Cache::formed, lines::specs::Lines::rule_text, rules::specs::Rules::rule_of, text::specs::Tests::any))]
+    fn format_rule(self, rule: RegisterRule) -> Option<Rule>
+        ensures { formatted result ≡ rule_bytes self.family self.ra rule }
+    {
+        let form = rule_form(self.family, rule)?;
+        if rule.register == self.ra {
+            let name = ra_name();
+            return Some(Rule { name, form });
         }
+        has_cfi_name(self.family, rule.register).then(|| {
+            let name = cfi_register_name(self.family, rule.register);
+            Rule { name, form }
+        })
     }
-    p
-}
 
-// The beginning of a row's line: INIT at the first start.
-#[tactic(auto, unfolding(crate::specs::Dwarf::start_bytes, lines::specs::Lines::init_text, lines::specs::Lines::later_text))]
-fn put_start(out: &mut [u8], at: usize, fde: Fde, start: u64) -> usize
-    ensures { Put out.old at (start_bytes fde start) out.new result }
-{
-    let address = start.saturating_sub(fde.load);
-    if start == fde.start {
-        return put_init(out, at, address, fde.length);
+    // Where the return address is in a register, families 3 to 9: " .ra: Q".
+    #[tactic(auto, unfolding(crate::specs::Dwarf::ra_bytes, crate::specs::Cache::formatted, lines::specs::Lines::form_text, lines::specs::Lines::rule_text, rules::specs::Rules::rule_of, rules::specs::Rules::reg_name, rules::specs::Rules::form_of))]
+    fn format_default(self) -> Option<Rule>
+        ensures { formatted result ≡ ra_bytes self.family self.ra }
+    {
+        let kept = (FIRST_IN_REGISTER..=LAST_IN_REGISTER).contains(&self.family);
+        (kept && has_cfi_name(self.family, self.ra)).then(|| {
+            let name = ra_name();
+            let form = Form::Register(Reg::Cfi(self.family, self.ra));
+            Rule { name, form }
+        })
     }
-    put_later(out, at, false, address)
-}
 
-// The default, at the first start, where the return register's rule does not change.
-#[tactic(auto, unfolding(crate::specs::Dwarf::default_bytes, crate::specs::Cache::formatted))]
-fn new_default(fde: Fde, row: RowWords, cache: &RuleCache) -> Option<Rule>
-    ensures { let moved = list_any (moved_in fde.ra (lookup cache.now)) row.entry.rules.now in
-        formatted result ≡ default_bytes fde (row_is row.entry).start moved }
-{
-    if row.start() == fde.start && !is_moved(row.rules, fde.ra, cache) {
-        return format_default(fde);
+    // Whether a rule can be written: it has the names that it needs.
+    #[tactic(auto, using(crate::proofs::Forms::some_any))]
+    fn is_writable(self, rule: RegisterRule) -> bool
+        ensures { result ≡ any (rule_bytes self.family self.ra rule) }
+    {
+        self.format_rule(rule).is_some()
     }
-    None
-}
 
-// The line of a row, with its CFA's rule where that is new. The rules of the row are those last seen from now on.
-fn put_line(
-    out: &mut [u8],
-    at: usize,
-    row: RowWords,
-    fde: Fde,
-    cfa: Option<Rule>,
-    cache: &mut RuleCache,
-) -> usize
-    requires { cache.old.count + fresh (lookup cache.old) (rules_in row.rules.now) ≤ 64 }
-    ensures puts { let w = row_is row.entry in
-        let moved = list_any (moved_in fde.ra (lookup cache.old)) row.entry.rules.now in
-        Put out.old at (line_bytes fde w.start (formatted cfa ++ ran_rules fde.family fde.ra (lookup cache.old) w.rules) moved) out.new result }
-    ensures sees { Remembers cache.old (rules_in row.entry.rules.now) cache.new }
-{
-    let default = new_default(fde, row, cache);
-    let p = put_start(out, at, fde, row.start());
-    let p = put_formatted(out, p, cfa);
-    let p = put_rules(out, p, row.rules, fde, cache);
-    let p = put_formatted(out, p, default);
-    put_byte(out, p, b'\n')
-}
-
-// One row: its line, unless nothing is written, and what is last seen after it.
-fn put_row(out: &mut [u8], at: usize, row: RowWords, fde: Fde, mut state: RowState) -> Placed
-    requires room { state.rules.count + fresh (lookup state.rules) (rules_in row.rules.now) ≤ 64 }
-    requires once { T (once (registers (rules_in row.rules.now))) }
-    ensures writes { Put out.old at (ran_row fde (cfa_of state) (lookup state.rules) (row_is row.entry)) out.new result.at }
-    ensures goes { After state (row_is row.entry) result.state }
-{
-    let cfa = row.cfa();
-    let new = new_cfa(fde.family, cfa, state.cfa);
-    state.cfa = Some(cfa);
-    if new.is_none() && !any_new(row.rules, fde, &state.rules) {
-        state.rules.remember_all(row.rules);
-        return Placed { at, state };
+    // Whether a rule of a row is written: it differs from the one last seen, and can be.
+    fn any_new(self, rules: &[RuleWords], cache: &RuleCache) -> bool
+        ensures { result ≡ list_any (new_in self.family self.ra (lookup cache.now)) rules.now }
+    {
+        rules.iter().any(|words| {
+            let rule = RegisterRule::from(*words);
+            cache.differs(rule) && self.is_writable(rule)
+        })
     }
-    let at = put_line(out, at, row, fde, new, &mut state.rules);
-    Placed { at, state }
+
+    // The rules of a row that differ from those last seen; from now on they are these.
+    fn put_rules(
+        self,
+        out: &mut [u8],
+        at: usize,
+        rules: &[RuleWords],
+        cache: &mut RuleCache,
+    ) -> usize
+        requires { cache.old.count + fresh (lookup cache.old) (rules_in rules.now) ≤ 64 }
+        ensures puts { Put out.old at (ran_rules self.family self.ra (lookup cache.old) (rules_in rules.now)) out.new result }
+        ensures sees { Remembers cache.old (rules_in rules.now) cache.new }
+    {
+        let mut p = at;
+        for words in rules {
+            let rule = RegisterRule::from(*words);
+            let changed = cache.remember(rule);
+            if changed {
+                p = put_formatted(out, p, self.format_rule(rule));
+            }
+        }
+        p
+    }
+
+    // The beginning of a row's line: INIT at the first start.
+    #[tactic(auto, unfolding(crate::specs::Dwarf::start_bytes, lines::specs::Lines::init_text, lines::specs::Lines::later_text))]
+    fn put_start(self, out: &mut [u8], at: usize, start: u64) -> usize
+        ensures { Put out.old at (start_bytes self start) out.new result }
+    {
+        let address = start.saturating_sub(self.load);
+        if start == self.start {
+            return put_init(out, at, address, self.length);
+        }
+        put_later(out, at, false, address)
+    }
+
+    // The default, at the first start, where the return register's rule does not change.
+    #[tactic(auto, unfolding(crate::specs::Dwarf::default_bytes, crate::specs::Cache::formatted))]
+    fn new_default(self, row: RowWords, cache: &RuleCache) -> Option<Rule>
+        ensures { let moved = list_any (moved_in self.ra (lookup cache.now)) row.entry.rules.now in
+            formatted result ≡ default_bytes self (row_is row.entry).start moved }
+    {
+        if row.start() == self.start && !is_moved(row.rules, self.ra, cache) {
+            return self.format_default();
+        }
+        None
+    }
+
+    // The line of a row, with its CFA's rule where that is new. The rules of the row are those last seen from now on.
+    fn put_line(
+        self,
+        out: &mut [u8],
+        at: usize,
+        row: RowWords,
+        cfa: Option<Rule>,
+        cache: &mut RuleCache,
+    ) -> usize
+        requires { cache.old.count + fresh (lookup cache.old) (rules_in row.rules.now) ≤ 64 }
+        ensures puts { let w = row_is row.entry in
+            let moved = list_any (moved_in self.ra (lookup cache.old)) row.entry.rules.now in
+            Put out.old at (line_bytes self w.start (formatted cfa ++ ran_rules self.family self.ra (lookup cache.old) w.rules) moved) out.new result }
+        ensures sees { Remembers cache.old (rules_in row.entry.rules.now) cache.new }
+    {
+        let default = self.new_default(row, cache);
+        let p = self.put_start(out, at, row.start());
+        let p = put_formatted(out, p, cfa);
+        let p = self.put_rules(out, p, row.rules, cache);
+        let p = put_formatted(out, p, default);
+        put_byte(out, p, b'\n')
+    }
+
+    // One row: its line, unless nothing is written, and what is last seen after it.
+    fn put_row(self, out: &mut [u8], at: usize, row: RowWords, mut state: RowState) -> Placed
+        requires room { state.rules.count + fresh (lookup state.rules) (rules_in row.rules.now) ≤ 64 }
+        requires once { T (once (registers (rules_in row.rules.now))) }
+        ensures writes { Put out.old at (ran_row self (cfa_of state) (lookup state.rules) (row_is row.entry)) out.new result.at }
+        ensures goes { After state (row_is row.entry) result.state }
+    {
+        let cfa = row.cfa();
+        let new = new_cfa(self.family, cfa, state.cfa);
+        state.cfa = Some(cfa);
+        if new.is_none() && !self.any_new(row.rules, &state.rules) {
+            state.rules.remember_all(row.rules);
+            return Placed { at, state };
+        }
+        let at = self.put_line(out, at, row, new, &mut state.rules);
+        Placed { at, state }
+    }
 }
 
 // ---- all rows
@@ -327,22 +329,24 @@ impl RowState {
     }
 }
 
-fn put_rows(out: &mut [u8], at: usize, body: Body, fde: Fde) -> usize
-    ensures { Put out.old at (ran_rows fde no_cfa nothing_seen (rows body.entry.words.now)) out.new result }
-{
-    let mut p = at;
-    let mut state = RowState::start();
-    for row in body.rows {
-        let placed = put_row(out, p, row, fde, state);
-        p = placed.at;
-        state = placed.state;
+impl Fde {
+    fn put_rows(self, out: &mut [u8], at: usize, body: Body) -> usize
+        ensures { Put out.old at (ran_rows self no_cfa nothing_seen (rows body.entry.words.now)) out.new result }
+    {
+        let mut p = at;
+        let mut state = RowState::start();
+        for row in body.rows {
+            let placed = self.put_row(out, p, row, state);
+            p = placed.at;
+            state = placed.state;
+        }
+        p
     }
-    p
 }
 
 #[tactic(auto, unfolding(crate::specs::Dwarf::dwarf_text))]
 pub(crate) fn put_entry(out: &mut [u8], at: usize, body: Body) -> usize
     ensures { Put out.old at (dwarf_text body.entry.words.now) out.new result }
 {
-    put_rows(out, at, body, body.fde())
+    body.fde().put_rows(out, at, body)
 }

@@ -1,7 +1,7 @@
 -- `put_rows`: a turn puts one row's line.
 use Rattle.std.proofs.Common.{arith}
 use Rattle.dwarf.proofs.Loops.{lines_all, row_room, row_names_once, lines_turn, lines_done}
-use Rattle.dwarf.proofs.write.put_rows.Goals as goal
+use Rattle.dwarf.proofs.Fde.put_rows.Goals as goal
 
 pub loop-row-init : goal.loop-row-init
 loop-row-init c =

@@ -3,8 +3,8 @@ use Rattle.std.proofs.Common.{sym, ◌∙◌, arith}
 use Rattle.dwarf.proofs.Loops.{rule_room, rules_done, put_turn, put_done}
 use Rattle.dwarf.proofs.Forms.{put_taken, put_left}
 use Rattle.dwarf.proofs.Slices.{next_rule, no_rule}
-use Rattle.dwarf.proofs.write.put_rules.Goals.{then-changed, else-changed}
-use Rattle.dwarf.proofs.write.put_rules.Goals as goal
+use Rattle.dwarf.proofs.Fde.put_rules.Goals.{then-changed, else-changed}
+use Rattle.dwarf.proofs.Fde.put_rules.Goals as goal
 
 pub remember-changed-requires : goal.remember-changed-requires
 remember-changed-requires c = rw c.from-rule.ensures (rule_room c.loop-words.invariant.rules (next_rule _ _ c.loop-words-test.true) c.requires)
