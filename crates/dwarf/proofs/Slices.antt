@@ -6,10 +6,10 @@ use Rattle.std.proofs.Common.{sym, ap, ◌∙◌, arith, ne_eqb, add-one, get_or
 use Rattle.std.proofs.Math.Bool.{and-false}
 use Rattle.std.proofs.lemmas.Bool.Decides.{nat_tests}
 use Rattle.std.proofs.lemmas.List.{get_or-drop, get_or-take, drop-drop, drop-take, take-take, length-drop, length-take-le}
-use Rattle.text.specs.Tests.{one_less}
 use Rattle.entry.specs.Entry.{word}
 use Rattle.dwarf.specs.Dwarf.{wide, rule_at, rules_from, cfa_at, rule_count, next_row, row_at, rows_from, row_count, rows, registers, member}
 use Rattle.dwarf.specs.Dwarf.{rules_fit, cfa_fits, row_fits, rows_fit, rules_of, distinct, head_fits, dwarf_layout}
+use Rattle.dwarf.specs.Index.{rows_step, rows_fit_step}
 use Rattle.dwarf.specs.Slices.{rule_in, rules_in, row_of, IsRow, fits_in, names_in, row_fits_in}
 use Rattle.dwarf.proofs.Chains.{rule_fits_is}
 
@@ -124,8 +124,7 @@ fit_end ws n h = let e : n ≡ 0 = omega arith in rw e (grind (arith, nat_tests)
 -- n are left to look at
 module _ (ws : List ℕ) (n : ℕ) (h : 0 < n) where
   pub fit_cut : length ws < next_row ws 0 → rows_fit ws n 0 ≡ false
-  unfolding rows_fit
-  fit_cut l = ap (λ (k : ℕ). rows_fit ws k 0) (one_less n h) ∙ (rw (cut_off ws (n - 1) (next_row ws 0) l, and-false (row_fits ws 0)))
+  fit_cut l = rows_fit_step ws n 0 h ∙ (rw (cut_off ws (n - 1) (next_row ws 0) l, and-false (row_fits ws 0)))
 
   -- and the first of them is this one
   module _ {front : List ℕ} {rs : List (List ℕ)} (i : IsRow ws front rs) where
@@ -159,16 +158,14 @@ module _ (ws : List ℕ) (n : ℕ) (h : 0 < n) where
     )
 
     pub rows_more : rows_from ws n 0 ≡ row_of front rs ∷ rows_from (drop (next_row ws 0) ws) (n - 1) 0
-    unfolding rows_from
     rows_more =
         let e : next_row ws 0 + 0 ≡ next_row ws 0 = omega arith in
-        ap (λ (k : ℕ). rows_from ws k 0) (one_less n h) ∙ (rw (rows_on ws (n - 1) (next_row ws 0) 0, e, first_row))
+        rows_step ws n 0 h ∙ (rw (rows_on ws (n - 1) (next_row ws 0) 0, e, first_row))
 
     pub fit_more : next_row ws 0 ≤ length ws → rows_fit ws n 0 ≡ (row_fits_in front rs && rows_fit (drop (next_row ws 0) ws) (n - 1) 0)
-    unfolding rows_fit
     fit_more l =
         let e : next_row ws 0 + 0 ≡ next_row ws 0 = omega arith in
-        ap (λ (k : ℕ). rows_fit ws k 0) (one_less n h) ∙ (rw (rows_fit_on ws (n - 1) (next_row ws 0) 0 l, e, fits_first))
+        rows_fit_step ws n 0 h ∙ (rw (rows_fit_on ws (n - 1) (next_row ws 0) 0 l, e, fits_first))
 
 -- ---- all of a body's
 
