@@ -12,7 +12,7 @@ pub enum Fate {
     Write,
 }
 
-// The last PDB entry that was not skipped: the next one that equals it in these is skipped. The type is a word of the body, and any number is one.
+// The last PDB entry that was not skipped: the next one that equals it in these is skipped. The type is a field of the body, 0 to 4, that is printed as it is.
 #[derive(Clone, Copy, PartialEq, Eq)]
 pub struct Last {
     pub ty: u32,

@@ -17,7 +17,7 @@ const REGISTERS: u32 = 256;
 const LETTERS: u32 = 4;
 
 // What stands for a number far beyond these.
-const FAR: u32 = 0xffff_ffff;
+const FAR: u32 = u32::MAX;
 
 // A line: the word, and what `put` puts behind it; nothing where the line is longer than its room.
 fn show<F: FnOnce(&mut [u8], usize) -> usize>(
@@ -56,6 +56,7 @@ fn show_cfi(rt: &impl Print, family: u32, register: u32) -> io::Result<()> {
 }
 
 fn show_pe(rt: &impl Print, register: u32) -> io::Result<()> {
+    // by its length: there is no has_pe_name
     if names::pe_register_name(register).len == 0 {
         return Ok(());
     }
@@ -161,9 +162,9 @@ const SIGNED: [i64; 28] = [
     1000000000000000000,
     -1000000000000000000,
     999999999999999999,
-    9223372036854775807,
-    -9223372036854775807,
-    -9223372036854775808,
+    i64::MAX,
+    -i64::MAX,
+    i64::MIN,
 ];
 
 fn show_signed_numbers(rt: &impl Print) -> io::Result<()> {
@@ -212,13 +213,13 @@ fn show_rules(rt: &impl Print) -> io::Result<()> {
         rt,
         names::cfi_register_name(2, 58),
         Reg::Cfi(7, 29),
-        9223372036854775807,
+        i64::MAX,
     )?;
     show_forms(
         rt,
         names::arm64_register_name(0, 29),
         Reg::Arm64(1, 8),
-        -9223372036854775808,
+        i64::MIN,
     )?;
     show_forms(rt, names::name_of(b".sp"), Reg::Arm64(2, 255), 2147483647)
 }
@@ -266,10 +267,10 @@ fn fields(x: u32) -> StackInfo {
 fn show_lines(rt: &impl Print) -> io::Result<()> {
     show_init(rt, 0x1000, 0x40)?;
     show_init(rt, 0, 0)?;
-    show_init(rt, 0xffff_ffff_ffff_ffff, 0xffff_ffff_ffff_ffff)?;
+    show_init(rt, u64::MAX, u64::MAX)?;
     show_later(rt, false, 0x1000)?;
     show_later(rt, true, 0x1004)?;
-    show_later(rt, false, 0xffff_ffff_ffff_ffff)?;
+    show_later(rt, false, u64::MAX)?;
     show_later(rt, true, 0)?;
     show_stack_info(rt, fields(0), false)?;
     show_stack_info(rt, fields(8), true)?;
@@ -285,7 +286,7 @@ fn main(rt: HostRuntime) -> io::Result<()> {
     show_powers_of_10(&rt)?;
     show_signed_numbers(&rt)?;
     show_measured(&rt, 0)?;
-    show_measured(&rt, 0xffff_ffff_ffff_ffff)?;
+    show_measured(&rt, u64::MAX)?;
     show_rules(&rt)?;
     show_lines(&rt)
 }

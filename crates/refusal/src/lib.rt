@@ -36,6 +36,7 @@ pub enum Refusal {
 }
 
 impl Refusal {
+    // Not From: contracts name the number.
     pub fn number(self) -> u32
         ensures { result ≡ number self }
     {

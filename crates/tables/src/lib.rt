@@ -107,7 +107,7 @@ static PE_X64: [&[u8]; 16] = [
     b"$r8", b"$r9", b"$r10", b"$r11", b"$r12", b"$r13", b"$r14", b"$r15", // 8
 ];
 
-// The table of a family, numbered as in `CpuFamily`. A family is a word of the body, and any number is one: those without a table have no names.
+// The table of a family, by its number in docs/BOOK.md. A family is a word of the body, and any number is one: those without a table have no names.
 #[tactic(auto, unfolding(crate::specs::Tables::table, crate::specs::Tables::i386, crate::specs::Tables::x86_64, crate::specs::Tables::arm, crate::specs::Tables::arm64, crate::specs::Tables::ppc, crate::specs::Tables::mips))]
 fn table(family: u32) -> &'static [&'static [u8]]
     ensures { map (λ name. name.now) result.now ≡ table family }
