@@ -101,7 +101,7 @@ impl RuleCache {
     }
 }
 
-// ---- what is written of a rule
+// ---- what is written of a rule; by the family alone, where nothing else of an Fde is used
 
 #[tactic(auto, using(crate::proofs::Forms::none_any), unfolding(crate::specs::Cache::formed, lines::specs::Lines::form_text, rules::specs::Rules::form_of, rules::specs::Rules::reg_name))]
 fn register_form(family: u32, register: u32) -> Option<Form>
