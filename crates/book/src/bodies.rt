@@ -38,7 +38,7 @@ impl<'a> Book<'a> {
         Err(Refusal::Contents)
     }
 
-    // One of the four: the rules ask for it.
+    // One of the four: the rules ask for it. Read anew: a Book with its kind beside would keep one fact more, for one caller.
     #[tactic(auto, using(crate::specs::Kind::Laws::has_kind))]
     pub fn kind(self) -> Kind
         ensures { kind_number result ≡ kind self.entry.words.now }

@@ -103,7 +103,7 @@ fn is_printable(b: u32) -> bool
     (SPACE..=TILDE).contains(&b)
 }
 
-// Each word is a byte of a program. No early end, so that many words are tested at once.
+// Each word is a byte of a program. Not `all`, which ends early and so tests one word at a time: without an early end many are tested at once.
 fn bytes_fit(program: &[u32]) -> bool
     ensures { result ≡ all printable program.now }
 {
