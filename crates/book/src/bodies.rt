@@ -55,9 +55,10 @@ impl<'a> Book<'a> {
         ensures { left result ≡ bodies self.entry.words.now }
     {
         let (pairs, _) = self.words[2..].as_chunks();
+        let pairs = &pairs[..count_of(self.words)];
         Bodies {
             words: self.words,
-            pairs: &pairs[..count_of(self.words)],
+            pairs,
         }
     }
 }

@@ -55,6 +55,7 @@ fn put_field(out: &mut [u8], at: usize, x: u32) -> usize
     put_byte(out, p, b' ')
 }
 
+// By a bool, as the line's definition has it: 1 where a program follows.
 fn put_flag(out: &mut [u8], at: usize, program: bool) -> usize
     ensures { Put out.old at (flag program) out.new result }
 {
