@@ -23,32 +23,31 @@ const UNIT: u32 = 8;
 const WIDE_UNIT: u32 = 16;
 
 // The first byte of codes of two bytes, and of those with any number.
-const ALLOC_M: u32 = 0xc0;
+const ALLOC_M: u8 = 0xc0;
 
-const ALLOC_L: u32 = 0xe0;
+const ALLOC_L: u8 = 0xe0;
 
 // Codes by themselves.
-const ADD_FP: u32 = 0xe2;
+const ADD_FP: u8 = 0xe2;
 
-const END_CODE: u32 = 0xe4;
+const END_CODE: u8 = 0xe4;
 
-const SAVE_NEXT: u32 = 0xe6;
+const SAVE_NEXT: u8 = 0xe6;
 
-const SAVE_ANY_REG: u32 = 0xe7;
+const SAVE_ANY_REG: u8 = 0xe7;
 
-const RESERVED_2: u32 = 0xf8;
+const RESERVED_2: u8 = 0xf8;
 
-const RESERVED_3: u32 = 0xf9;
+const RESERVED_3: u8 = 0xf9;
 
-const RESERVED_4: u32 = 0xfa;
+const RESERVED_4: u8 = 0xfa;
 
-const RESERVED_5: u32 = 0xfb;
+const RESERVED_5: u8 = 0xfb;
 
-const PAC_SIGN_LR: u32 = 0xfc;
+const PAC_SIGN_LR: u8 = 0xfc;
 
 // How many bytes a code has, by its first.
-fn size_of(b: u32) -> usize
-    requires { b < 256 }
+fn size_of(b: u8) -> usize
     ensures { (result ≡ (code_of b).size) × (1 ≤ result) × (result ≤ 5) }
 {
     if b < ALLOC_M {
@@ -72,10 +71,11 @@ fn size_of(b: u32) -> usize
 // ---- 00 to BF: one byte
 
 #[tactic(auto, using(crate::specs::Index::alloc_s, crate::specs::Index::save_r19r20_x, crate::specs::Index::save_fplr, crate::specs::Index::save_fplr_x))]
-fn one_byte(b: u32) -> Op
+fn one_byte(b: u8) -> Op
     requires { b < 192 }
     ensures { result ≡ meant (code_of b) b }
 {
+    let b = u32::from(b);
     match b {
         // alloc_s
         ..=0x1f => Op::AllocStack(WIDE_UNIT * (b % 32)),
@@ -93,7 +93,7 @@ fn one_byte(b: u32) -> Op
 // alloc_m, and the codes that save x registers. Each arm is a line of the page's table: one function for x and d would take the first bytes, the
 // register and the width of its field, and have as many arms.
 #[tactic(auto, using(crate::specs::Index::alloc_m, crate::specs::Index::save_regp, crate::specs::Index::save_regp_x, crate::specs::Index::save_reg, crate::specs::Index::save_reg_x, crate::specs::Index::save_lrpair))]
-fn integer_save(b: u32, n: u32) -> Op
+fn integer_save(b: u8, n: u32) -> Op
     requires { (192 ≤ b) × (b < 216) }
     ensures { result ≡ meant (code_of b) n }
 {
@@ -117,7 +117,7 @@ fn integer_save(b: u32, n: u32) -> Op
 
 // The codes that save d registers, and alloc_z.
 #[tactic(auto, using(crate::specs::Index::save_fregp, crate::specs::Index::save_fregp_x, crate::specs::Index::save_freg, crate::specs::Index::save_freg_x, crate::specs::Index::alloc_z))]
-fn float_save(b: u32, n: u32) -> Op
+fn float_save(b: u8, n: u32) -> Op
     requires { (216 ≤ b) × (b < 224) }
     ensures { result ≡ meant (code_of b) n }
 {
@@ -137,7 +137,7 @@ fn float_save(b: u32, n: u32) -> Op
     }
 }
 
-fn two_bytes(b: u32, n: u32) -> Op
+fn two_bytes(b: u8, n: u32) -> Op
     requires { (192 ≤ b) × (b < 224) }
     ensures { result ≡ meant (code_of b) n }
 {
@@ -191,10 +191,10 @@ fn any_save(pair: bool, pre_indexed: bool, letter: u32, register: u32, value: u3
 }
 
 #[tactic(auto, unfolding(crate::specs::UnwindCodes::any_reg))]
-fn any_reg(s: u32, t: u32) -> Op
-    requires { (s < 256) × (t < 256) }
+fn any_reg(s: u8, t: u8) -> Op
     ensures { result ≡ any_reg s t }
 {
+    let (s, t) = (u32::from(s), u32::from(t));
     if 128 <= s {
         return Op::Undecodable;
     }
@@ -211,8 +211,8 @@ fn any_reg(s: u32, t: u32) -> Op
 // ---- E0 to FF, but for the numbers in alloc_l and save_any_reg
 
 #[tactic(auto, using(crate::specs::Index::no_kind, crate::specs::Index::an_end, crate::specs::Index::save_next, crate::specs::Index::reserved, crate::specs::Index::pac_sign_lr, crate::specs::Index::reserved_last))]
-fn no_number(b: u32) -> Op
-    requires { (225 ≤ b) × (b < 256) × (b ≢ 231) }
+fn no_number(b: u8) -> Op
+    requires { (225 ≤ b) × (b ≢ 231) }
     ensures { (n : ℕ) → result ≡ meant (code_of b) n }
 {
     // set_fp, add_fp, nop
@@ -254,7 +254,7 @@ impl<'a> Code<'a> {
         requires { 0 < length bytes.now }
         ensures { MatchOption result (whole bytes.now ≡ false) (λ c. (c.bytes.now ≡ bytes.now) × (whole bytes.now ≡ true)) }
     {
-        if bytes.len() < size_of(u32::from(bytes[0])) {
+        if bytes.len() < size_of(bytes[0]) {
             return None;
         }
         Some(Code { bytes })
@@ -273,13 +273,13 @@ impl<'a> Code<'a> {
         ensures { result ≡ operation_at self.entry.bytes.now }
     {
         let bytes = self.bytes;
-        let b = u32::from(bytes[0]);
+        let b = bytes[0];
         if b == ALLOC_L {
             let size = u32::from_be_bytes([0, bytes[1], bytes[2], bytes[3]]);
             return Op::AllocStack(WIDE_UNIT * size);
         }
         if b == SAVE_ANY_REG {
-            return any_reg(u32::from(bytes[1]), u32::from(bytes[2]));
+            return any_reg(bytes[1], bytes[2]);
         }
         no_number(b)
     }
@@ -287,12 +287,12 @@ impl<'a> Code<'a> {
     pub(crate) fn operation(self) -> Op
         ensures { result ≡ operation_at self.entry.bytes.now }
     {
-        let b = u32::from(self.bytes[0]);
+        let b = self.bytes[0];
         if b < ALLOC_M {
             return one_byte(b);
         }
         if b < ALLOC_L {
-            return two_bytes(b, 256 * b + u32::from(self.bytes[1]));
+            return two_bytes(b, u32::from(u16::from_be_bytes([b, self.bytes[1]])));
         }
         self.special()
     }
@@ -301,7 +301,7 @@ impl<'a> Code<'a> {
     pub(crate) fn rest(self) -> &'a [u8]
         ensures { result.now ≡ drop (size_at self.entry.bytes.now) self.entry.bytes.now }
     {
-        &self.bytes[size_of(u32::from(self.bytes[0]))..]
+        &self.bytes[size_of(self.bytes[0])..]
     }
 
     // Whether it ends the list, by its first byte where that tells: asked of its operation, decoding took 434.5 instructions a function for 329.5.
@@ -309,12 +309,12 @@ impl<'a> Code<'a> {
         ensures { result ≡ ends_of (operation_at self.entry.bytes.now) }
     {
         let bytes = self.bytes;
-        let b = u32::from(bytes[0]);
+        let b = bytes[0];
         if b < END_CODE {
             return false;
         }
         if b == SAVE_ANY_REG {
-            return ends(any_reg(u32::from(bytes[1]), u32::from(bytes[2])));
+            return ends(any_reg(bytes[1], bytes[2]));
         }
         (b != SAVE_NEXT) & (b != PAC_SIGN_LR)
     }

@@ -13,12 +13,10 @@ bounds-bytes-1 c = omega (arith, three (get_or c.args.self.bytes.now 0 0) (omega
 pub bounds-bytes-2 : goal.bounds-bytes-2
 bounds-bytes-2 c = omega (arith, three (get_or c.args.self.bytes.now 0 0) (omega arith), c.args.self.whole)
 
-pub returns-then-b-eq-SAVE_ANY_REG : goal.returns-then-b-eq-SAVE_ANY_REG
-returns-then-b-eq-SAVE_ANY_REG c =
-    let bs = c.args.self.bytes.now in
-    rw (c.ends.ensures, c.any_reg.ensures, c.from.ensures, c.from-then-b-eq-SAVE_ANY_REG.ensures) (ap ends (any_at bs 0 (omega arith) (omega arith) (omega arith)))
+pub returns-then-b : goal.returns-then-b
+returns-then-b c = rw (c.ends.ensures, c.any_reg.ensures) (ap ends (any_at c.args.self.bytes.now 0 (omega arith) (omega arith) (omega arith)))
 
 pub returns : goal.returns
 returns c =
     let b = get_or c.args.self.bytes.now 0 0 in
-    rw c.from-b.ensures (ends_at c.args.self.bytes.now 0 (λ n. ends_late b n (omega arith) (omega arith) (λ z. omega (arith, z))))
+    ends_at c.args.self.bytes.now 0 (λ n. ends_late b n (omega arith) (omega arith) (λ z. omega (arith, z)))
