@@ -2,13 +2,13 @@
 // The encoder runs the operations: for refusal 6 here, and again for the lines.
 ghost use Rattle.std.specs.Prelude.{◌≡◌, ◌+◌, ◌^◌, ◌<◌, ◌≤◌, true, false, MatchOption, MatchResult};
 ghost use Rattle.entry.specs.declared.Fate.TheVariants.{Skip};
-ghost use Rattle.std.specs.List.{list_all, list_any};
+ghost use Rattle.std.specs.List.{list_any};
 ghost use Rattle.std.proofs.Math.IntN.{sub_ℕ};
 ghost use Rattle.lines.specs.Reach.{inside};
 ghost use Rattle.arm64.specs.declared.Saves.TheVariants.{Nothing, Alone, Paired};
-ghost use Rattle.arm64.specs.Arm64.{width, above, saved, pair_from, is_lr, writes_ra, no_pair, saved_fits, saves_fit, fits, in_reach, op_fits, arm_layout, arm_judged};
+ghost use Rattle.arm64.specs.Arm64.{width, above, saved, pair_from, is_lr, writes_ra, no_pair, saved_fits, saves_fit, fits, in_reach, arm_judged};
 ghost use Rattle.arm64.specs.Encoder.{start_encoder, stepped, Steps, line_fits, Near, EachNear, EachNear-prop};
-ghost use Rattle.arm64.specs.Index.{is_kind, words_fit, ops_run, Holds, Admitted};
+ghost use Rattle.arm64.specs.Index.{is_kind, ops_run, Admitted};
 
 use crate::body::{Body, UNDECODABLE};
 use crate::{BreakpadEncoder, Op, Saved, Saves};
@@ -29,7 +29,7 @@ const WIDTH: u64 = 8;
 
 const Q_WIDTH: u64 = 16;
 
-// No pair yet: x0 at place 0.
+// Before the first pair save-next goes on from x0 at place 0.
 const NOTHING: Saved = Saved {
     letter: 0,
     register: 0,
@@ -54,7 +54,7 @@ impl Saved {
         (self.letter == X) & (self.register == LR)
     }
 
-    // The next register, right above.
+    // The next register, right above. Bounds of its own, here and where pairs are saved: Near holds of what is in reach, and that is not yet known.
     #[tactic(auto, unfolding(crate::specs::Arm64::above))]
     fn above(self) -> Saved
         requires { (self.register < 2 ^ 33) × (self.a < 2 ^ 34) }

@@ -19,8 +19,8 @@ use judge::judge;
 use refusal::Refusal;
 use write::put_lines;
 
-// An unwind operation with the words that it uses: letter, register and value where it saves. They stand side by side, as the definitions have them:
-// a struct for the three would be taken apart again in each arm but one, since a pair by name and lr has no letter.
+// An unwind operation with the words that it uses: letter, register and value where it saves. They stand side by side: the definitions match on the
+// variants and use the three as numbers, some of them value alone; a struct would be one more type in each, and no fewer words here.
 #[derive(Clone, Copy)]
 pub enum Op {
     AllocStack(u32),

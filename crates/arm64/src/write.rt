@@ -1,5 +1,5 @@
 // The lines of an ARM64 entry, one for each operation: the CFA where the stack grew, the registers that were saved, and the return address.
-ghost use Rattle.std.specs.Prelude.{not, ◌++◌, ◌^◌, ◌<◌, ◌≤◌, T};
+ghost use Rattle.std.specs.Prelude.{◌++◌, ◌≤◌, T};
 ghost use Rattle.text.specs.Text.{Put, ascii};
 ghost use Rattle.names.specs.Names.{name_text};
 ghost use Rattle.lines.specs.Lines.{rule, register, rule_text};
@@ -18,12 +18,12 @@ use text::put_byte;
 
 // ---- the rules of an operation
 
-// " R: .cfa N + ^"
-fn put_saved(out: &mut [u8], at: usize, name: Name, a: u64, b: u64) -> usize
-    requires { (a < 2 ^ 63) × (b < 2 ^ 63) }
-    ensures { Put out.old at (ascii " " ++ name_text name ++ ascii ": " ++ place_text a b) out.new result }
+// " R: .cfa N + ^", where p is saved
+fn put_saved(out: &mut [u8], at: usize, name: Name, p: Saved) -> usize
+    requires { Near p }
+    ensures { Put out.old at (ascii " " ++ name_text name ++ ascii ": " ++ place_text p.a p.b) out.new result }
 {
-    let x = difference(a, b);
+    let x = difference(p.a, p.b);
     let form = Form::AtCfaPlus(x);
     put_rule(out, at, Rule { name, form })
 }
@@ -34,14 +34,15 @@ fn put_register(out: &mut [u8], at: usize, p: Saved) -> usize
     ensures { Put out.old at (saved_text p) out.new result }
 {
     let name = arm64_register_name(p.letter, p.register as u32);
-    put_saved(out, at, name, p.a, p.b)
+    put_saved(out, at, name, p)
 }
 
+// The return address, where x30 is saved.
 fn put_ra(out: &mut [u8], at: usize, p: Saved) -> usize
     requires { Near p }
     ensures { Put out.old at (ra_text p) out.new result }
 {
-    put_saved(out, at, ra_name(), p.a, p.b)
+    put_saved(out, at, ra_name(), p)
 }
 
 // The registers that an operation saves, and the return address where the second is x30.
@@ -92,6 +93,7 @@ fn put_default(out: &mut [u8], at: usize, name: Name, reg: Reg) -> usize
     put_rule(out, at, Rule { name, form })
 }
 
+// The defaults of what the operation just run does not write.
 fn put_defaults(out: &mut [u8], at: usize, e: InReach) -> usize
     ensures { Put out.old at (defaults_text e.state.cfa_touched (writes_ra e.state.saves)) out.new result }
 {
@@ -115,6 +117,7 @@ fn put_first_line(out: &mut [u8], at: usize, body: &Body, e: InReach) -> usize
     put_byte(out, p, b'\n')
 }
 
+// Any other line.
 fn put_later_line(out: &mut [u8], at: usize, address: u64, e: InReach) -> usize
     ensures { Put out.old at (later_line address (step_text e.state)) out.new result }
 {
@@ -134,8 +137,8 @@ fn put_line(out: &mut [u8], at: usize, body: &Body, i: usize, e: InReach) -> usi
     put_later_line(out, at, body.line(i), e)
 }
 
-// The lines of the operations, run backwards. `reach` goes over them too; a fold for both would hold the slice in a closure, of which no proof knows
-// the text behind it.
+// The lines of the operations, run backwards. `reach` goes over them too: a fold for both would hold the slice in a closure, and no proof knows what is
+// written there; an iterator would give an Option of a state, for these two alone.
 pub(crate) fn put_lines(out: &mut [u8], at: usize, body: &Body) -> usize
     requires { T (in_reach body.now.address 0 0 no_pair (ops_run body.now.ops.now)) }
     ensures { Put out.old at (run body.now.address body.now.size 0 0 no_pair (ops_run body.now.ops.now)) out.new result }

@@ -11,7 +11,7 @@
 mod code;
 mod list;
 
-ghost use Rattle.std.specs.Prelude.{◌≡◌, length};
+ghost use Rattle.std.specs.Prelude.{length};
 ghost use Rattle.fill.specs.Fill.{Fills};
 ghost use Rattle.unwind_codes.specs.UnwindCodes.{decoded};
 

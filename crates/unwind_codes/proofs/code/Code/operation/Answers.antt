@@ -13,5 +13,5 @@ bounds-self-1 c = omega (arith, two (get_or c.args.self.bytes.now 0 0) (omega ar
 pub returns-then-b-lt-ALLOC_L : goal.returns-then-b-lt-ALLOC_L
 returns-then-b-lt-ALLOC_L c =
     let bs = c.args.self.bytes.now in
-    c.two_bytes.ensures ∙ ap (λ (n : ℕ). meant (code_of (get_or bs 0 0)) n) (omega (arith, c.from.ensures, c.from_be_bytes.ensures))
+    c.two_bytes.ensures ∙ ap (λ (n : ℕ). meant (code_of (get_or bs 0 0)) n) (omega (arith, c.from.ensures, c.from-then-b-lt-ALLOC_L.ensures))
     ∙ two_at bs 0 (omega arith) (omega arith)
