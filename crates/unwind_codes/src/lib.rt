@@ -19,7 +19,7 @@ use fill::put_words;
 use list::Codes;
 use refusal::Refusal;
 
-// The words of a body before its operations, and of an operation.
+// The words of a body before its operations, and of an operation; arm64 keeps its own two to itself.
 const HEAD: usize = 3;
 
 const OP_WORDS: usize = 4;
