@@ -46,8 +46,8 @@ const RESERVED_5: u8 = 0xfb;
 
 const PAC_SIGN_LR: u8 = 0xfc;
 
-// How many bytes a code has, by its first. Ranges by if, here and in what goes by the first byte below: with a match in this place decoding takes 14 %
-// more instructions, with matches there 5 % more.
+// How many bytes a code has, by its first. Ranges by if, here and in what goes by the first byte below: with a match in this place decoding takes
+// 14 % more instructions, with matches there 5 % more.
 fn size_of(b: u8) -> usize
     ensures { (result ≡ (code_of b).size) × (1 ≤ result) × (result ≤ 5) }
 {
