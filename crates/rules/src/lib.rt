@@ -78,9 +78,7 @@ fn put_amount(out: &mut [u8], at: usize, x: i64, operators: &[u8]) -> usize
     put_bytes(out, p, operators)
 }
 
-// This and the next differ in what stands before the amount; what they share is put_amount. Not inlined, they cost x64 and ARM64 some 5 in a hundred
-// more instructions a word.
-#[inline(always)]
+// This and the next differ in what stands before the amount; what they share is put_amount.
 fn put_from_register(out: &mut [u8], at: usize, reg: Reg, x: i64, operators: &[u8]) -> usize
     ensures { Put out.old at (reg_name reg ++ amount x operators.now) out.new result }
 {
@@ -88,7 +86,6 @@ fn put_from_register(out: &mut [u8], at: usize, reg: Reg, x: i64, operators: &[u
     put_amount(out, p, x, operators)
 }
 
-#[inline(always)]
 fn put_from_cfa(out: &mut [u8], at: usize, x: i64, operators: &[u8]) -> usize
     ensures { Put out.old at (ascii ".cfa" ++ amount x operators.now) out.new result }
 {
