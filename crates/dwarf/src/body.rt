@@ -120,7 +120,7 @@ pub(crate) struct RowWords<'a> {
 impl<'a> RowWords<'a> {
     ghost use Rattle.dwarf.specs.Slices.{row_of, IsRow};
 
-    // The row that the words begin with, and the words behind it; none where they are too few.
+    // The row that the words begin with, and the words behind it; none where they are too few. Not one with x64's infos: see there.
     pub(crate) fn split(words: &'a [u32]) -> Option<(RowWords<'a>, &'a [u32])>
         ensures { MatchOption result (length words.now < next_row words.now 0)
             (λ p. (next_row words.now 0 ≤ length words.now)

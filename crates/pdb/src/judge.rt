@@ -103,7 +103,8 @@ fn is_printable(b: u32) -> bool
     (SPACE..=TILDE).contains(&b)
 }
 
-// Each word is a byte of a program. Not `all`, which ends early and so tests one word at a time: without an early end many are tested at once.
+// Each word is a byte of a program. Not `all`, which ends early, so that no two words are tested at once: by it a word of real PDB books takes 16.4
+// instructions in place of 13.0.
 fn bytes_fit(program: &[u32]) -> bool
     ensures { result ≡ all printable program.now }
 {

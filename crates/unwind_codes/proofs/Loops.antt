@@ -1,6 +1,6 @@
 -- The two loops over the list: counted, and put. What holds at their heads, with its start, turn and end.
 use Rattle.std.proofs.Common.{◌≡◌, refl, sym, ap, ◌∙◌, subst, arith, Bool, true, false, cond, ◌&&◌, List, []}
-use Rattle.std.proofs.Common.{◌∷◌, ◌++◌, ℕ, ◌+◌, ◌-◌, ◌*◌, ◌≤◌, ◌<◌, T, Ok, Err, Option, None, Some, IsSome, length, drop, length-append, length-drop}
+use Rattle.std.proofs.Common.{◌∷◌, ◌++◌, ℕ, ◌+◌, ◌-◌, ◌*◌, ◌≤◌, ◌<◌, T, Ok, Err, length, drop, length-append, length-drop, leb→le}
 use Rattle.std.proofs.lemmas.List.{nil_from_length}
 use borrow.Author.Tests.{ne_eqb}
 use Rattle.text.specs.Text.{MAX, Put}
@@ -102,13 +102,10 @@ module _ {rest words : List ℕ} {left : ℕ} (l : OpsLeft rest left words) (h :
   codes_are : l.codes ≡ rest ∷ behind rest
   codes_are = sym (l.here h) ∙ list_first rest some
 
-  all_there : T (whole rest)
-  all_there = and_l (whole rest) (all whole (behind rest)) (subst (λ (cs : List (List ℕ)). T (all whole cs)) codes_are l.wholes)
-
-  -- so it can be read
-  pub read_there : {A : Type 0} (o : Option A) → (o ≡ None → whole rest ≡ false) → IsSome o
-  read_there None e = absurd (rw (e refl) at all_there)
-  read_there (Some x) e = refl
+  pub code_within : size_at rest ≤ length rest
+  code_within =
+      leb→le (size_at rest) (length rest)
+      (and_l (whole rest) (all whole (behind rest)) (subst (λ (cs : List (List ℕ)). T (all whole cs)) codes_are l.wholes))
 
   pub words_first : {o : Op} → o ≡ operation_at rest → words ≡ words_of o ++ op_words (behind rest)
   unfolding op_words

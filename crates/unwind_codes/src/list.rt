@@ -63,10 +63,9 @@ impl<'a> Codes<'a> {
     {
         let mut p = at;
         let mut rest = self.bytes;
-        // By their number: which one ends the list, and that all are there, was asked when they were counted. An iterator would stand for this one
-        // loop alone.
+        // By their number: which one ends the list was asked when they were counted. An iterator would stand for this one loop alone.
         for _ in 0..self.count {
-            let code = Code::read(rest).unwrap();
+            let code = Code::first(rest);
             // First the words, then what stands behind, then they are put: put at once, decoding takes 5 % more instructions.
             let words = code.operation().words();
             rest = code.rest();

@@ -93,7 +93,8 @@ pub(crate) struct Info<'a> {
 }
 
 impl<'a> Info<'a> {
-    // The info that the words begin with, and the words behind it; none where they are too few.
+    // The info that the words begin with, and the words behind it; none where they are too few. Not one with DWARF's rows over both sizes: of its three
+    // slices each would make its own struct, and its contract would be as long as these two.
     pub(crate) fn split(words: &'a [u32]) -> Option<(Info<'a>, &'a [u32])>
         ensures { MatchOption result (length words.now < info_length words.now)
             (λ p. (info_length words.now ≤ length words.now)
