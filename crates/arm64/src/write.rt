@@ -37,14 +37,6 @@ fn put_register(out: &mut [u8], at: usize, p: Saved) -> usize
     put_saved(out, at, name, p)
 }
 
-// The return address, where x30 is saved.
-fn put_ra(out: &mut [u8], at: usize, p: Saved) -> usize
-    requires { Near p }
-    ensures { Put out.old at (ra_text p) out.new result }
-{
-    put_saved(out, at, ra_name(), p)
-}
-
 // The registers that an operation saves, and the return address where the second is x30.
 fn put_saves(out: &mut [u8], at: usize, saves: Saves) -> usize
     requires { EachNear saves }
@@ -56,7 +48,11 @@ fn put_saves(out: &mut [u8], at: usize, saves: Saves) -> usize
         Saves::Paired(p, q) => {
             let at = put_register(out, at, p);
             let at = put_register(out, at, q);
-            if q.is_lr() { put_ra(out, at, q) } else { at }
+            if q.is_lr() {
+                put_saved(out, at, ra_name(), q)
+            } else {
+                at
+            }
         }
     }
 }
