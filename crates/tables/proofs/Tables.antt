@@ -1,4 +1,5 @@
--- A register without an arm in the `match` of a table has no name in its list.
+-- A register that the last arm of a `match` over a list of names is left with has no name in it. The tables are arrays now, and no proof asks for this;
+-- it stands for what was said of them.
 use Rattle.std.proofs.Common.{◌≡◌, refl, subst, ℕ, zero, suc, ◌≤◌, Bool, false, not, List, [], ◌∷◌, length, get_or, arith}
 use Rattle.std.proofs.Math.Dec.{T, eqb}
 use Rattle.std.proofs.Math.Decide.{dec_lt}

