@@ -35,7 +35,8 @@ fn listed(cell: &str) -> Option<Vec<String>> {
 }
 
 fn registers(t: &mut Tally, page: &str) {
-    let source = read("crates/tables/specs/Tables.antt");
+    // 64-bit ARM's names go by a rule; its table is the one that the rule is proved against.
+    let source = read("crates/tables/specs/Tables.antt") + &read("crates/names/specs/Arm64.antt");
     let rows: Vec<Vec<&str>> = tables(page).into_iter().filter(|x| x[0] == ["family", "in a book", "names"]).flatten().collect();
     for (family, name) in FAMILIES {
         let row = rows.iter().find(|row| row[0].split(", ").next() == Some(family));

@@ -203,10 +203,11 @@ struct Reach {
 }
 
 impl Reach {
-    /// Every file of definitions, and the laws of the senses.
+    /// Every file of definitions, and the laws of the demands that stand among proofs.
     fn new() -> Reach {
         let mut sources = BTreeMap::new();
-        let is_read = |p: &&PathBuf| p.components().nth(2).is_some_and(|c| c.as_os_str() == "specs") || p.ends_with("proofs/Sense.antt");
+        let of_demand = |p: &Path| ["proofs/Sense.antt", "proofs/Arm64.antt"].iter().any(|end| p.ends_with(end));
+        let is_read = |p: &&PathBuf| p.components().nth(2).is_some_and(|c| c.as_os_str() == "specs") || of_demand(p);
         for path in files(Path::new("crates"), ".antt").iter().filter(is_read) {
             let file = path.strip_prefix("crates").expect("under crates").to_string_lossy().into_owned();
             let lines: Vec<String> = read(path).lines().map(bare).filter(|l| !l.is_empty()).collect();

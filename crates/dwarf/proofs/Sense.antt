@@ -5,7 +5,7 @@ use Rattle.std.proofs.Math.Path.{fun_ext}
 use Rattle.text.specs.Text.{ascii}
 use Rattle.digits.specs.Digits.{hex, signed}
 use Rattle.text.specs.Tests.{all, all_append, and_l, and_r, both, either, any}
-use Rattle.tables.specs.Tables.{cfi_name}
+use Rattle.names.specs.Names.{cfi_name}
 use Rattle.lines.specs.Lines.{Bytes, Form, register, register_plus, cfa_plus, at_cfa_plus, Rule, rule, init, later, cfa, form_text}
 use Rattle.lines.specs.Lines.{rule_text, rules_text, init_text, later_text, line_text, render, name_ok, register_ok, form_ok, rule_ok, line_ok}
 use Rattle.lines.specs.Lines.Laws.{rules_append, render_append, render_unless}

@@ -4,7 +4,8 @@ use Rattle.std.specs.Prelude.{ℕ, zero, suc, ◌+◌, ◌-◌, ◌*◌, ◌^◌
 use Rattle.text.specs.Text.{ascii}
 use Rattle.text.specs.Tests.{any}
 use Rattle.digits.specs.Digits.{hex, signed, Digits·open}
-use Rattle.tables.specs.Tables.{cfi_name, table, i386, x86_64, arm, arm64, ppc, mips}
+use Rattle.tables.specs.Tables.{listed_name, table, i386, x86_64, arm, ppc, mips}
+use Rattle.names.specs.Names.{arm64_cfi_name, cfi_name}
 use Rattle.entry.specs.declared.Last.{Last}
 use Rattle.refusal.specs.declared.Refusal.TheVariants.{Layout, Reach}
 use Rattle.entry.specs.declared.Fate.TheVariants.{Skip, Write}
@@ -298,7 +299,7 @@ dwarf_entry last ws = comes_to (dwarf_judged ws) (dwarf_text ws) last last
 
 -- what to unfold where DWARF entries are to compute
 unfoldable pub Dwarf·open : Type 0
-unfolding Digits·open cfi_name table i386 x86_64 arm arm64 ppc mips wide twos used_value rule_at rules_from cfa_at rows_from rows first_start last_end fde_of
+unfolding Digits·open arm64_cfi_name cfi_name listed_name table i386 x86_64 arm ppc mips wide twos used_value rule_at rules_from cfa_at rows_from rows first_start last_end fde_of
     registers member once distinct rule_fits rules_fit cfa_fits row_fits rows_fit rules_of head_fits dwarf_layout dwarf_skipped any_below dwarf_reach dwarf_judged
     any form_bytes named_bytes rule_bytes cfa_bytes ra_bytes default_bytes start_bytes line_bytes row_bytes seen_after ran_rules ran_moved ran_of ran_row ran_rows
     nothing_seen dwarf_text dwarf_entry

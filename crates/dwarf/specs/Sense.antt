@@ -3,7 +3,7 @@
 -- the two agree is proved in proofs/Sense.antt. A body's words are b.
 use Rattle.std.specs.Prelude.{ℕ, ◌-◌, Bool, true, false, not, cond, ◌&&◌, ◌||◌, List, [], ◌∷◌, ◌++◌, ℤ, eqb, leb}
 use Rattle.text.specs.Text.{ascii}
-use Rattle.tables.specs.Tables.{cfi_name}
+use Rattle.names.specs.Names.{cfi_name}
 use Rattle.lines.specs.Lines.{Bytes, Form, register, register_plus, cfa_plus, at_cfa_plus, Rule, rule, Line, init, later, cfa}
 use Rattle.entry.specs.Entry.{word}
 use Rattle.dwarf.specs.declared.RegisterRule.{RegisterRule}

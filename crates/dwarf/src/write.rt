@@ -4,7 +4,7 @@ ghost use Rattle.std.specs.Prelude.{◌≡◌, [], ◌++◌, ◌+◌, ◌<◌, �
 ghost use Rattle.std.specs.List.{list_any};
 ghost use Rattle.text.specs.Text.{Put};
 ghost use Rattle.text.specs.Tests.{any};
-ghost use Rattle.tables.specs.Tables.{cfi_name};
+ghost use Rattle.names.specs.Names.{cfi_name};
 ghost use Rattle.dwarf.specs.Dwarf.{rows, registers, once, seen, differs, cfa_differs, remember, no_cfa, nothing_seen};
 ghost use Rattle.dwarf.specs.Dwarf.{form_bytes, rule_bytes, cfa_bytes, ra_bytes, default_bytes, start_bytes, line_bytes};
 ghost use Rattle.dwarf.specs.Dwarf.{ran_row, ran_rules, ran_rows, dwarf_text};

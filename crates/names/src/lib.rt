@@ -4,13 +4,14 @@
 #![tactic(auto)]
 
 ghost use Rattle.std.specs.Prelude.{◌≡◌, [], ◌∷◌, ◌<◌, take};
+ghost use Rattle.digits.specs.Digits.{decimal};
 ghost use Rattle.text.specs.Tests.{any};
 ghost use Rattle.text.specs.Text.{Put};
-ghost use Rattle.tables.specs.Tables.{cfi_name, pe_name};
-ghost use Rattle.names.specs.Names.{letter_of, arm64_name, name_text};
+ghost use Rattle.tables.specs.Tables.{pe_name};
+ghost use Rattle.names.specs.Names.{arm64_cfi_name, cfi_name, letter_of, arm64_name, name_text};
 
 use digits::put_decimal;
-use tables::{cfi_name, pe_name};
+use tables::{listed_name, pe_name};
 use text::{put_byte, put_bytes, put_front};
 
 // A name in fixed bytes with its length, as document 01 wants it; length 0: no name.
@@ -20,11 +21,26 @@ pub struct Name {
     pub len: usize,
 }
 
-#[tactic(auto, using(crate::proofs::Short::some_any))]
+// The families of 64-bit ARM. Their names go by rule, any other's by its table.
+const ARM64: u32 = 4;
+
+const ARM64_32: u32 = 9;
+
+#[tactic(auto, unfolding(text::specs::Tests::any, crate::specs::Names::arm64_cfi_name))]
+fn has_arm64_cfi_name(register: u32) -> bool
+    ensures { result ≡ any (arm64_cfi_name register) }
+{
+    matches!(register, 0..=31 | 64..=95)
+}
+
+#[tactic(auto, using(crate::proofs::Short::some_any), unfolding(crate::specs::Names::cfi_name))]
 pub fn has_cfi_name(family: u32, register: u32) -> bool
     ensures { result ≡ any (cfi_name family register) }
 {
-    !cfi_name(family, register).is_empty()
+    match family {
+        ARM64 | ARM64_32 => has_arm64_cfi_name(register),
+        _ => !listed_name(family, register).is_empty(),
+    }
 }
 
 // The first eight bytes of a text.
@@ -36,11 +52,12 @@ pub fn name_of(text: &[u8]) -> Name
     Name { bytes, len }
 }
 
-#[tactic(auto, using(crate::proofs::Short::cfi_whole))]
 pub fn cfi_register_name(family: u32, register: u32) -> Name
     ensures { name_text result ≡ cfi_name family register }
 {
-    name_of(cfi_name(family, register))
+    let mut bytes = [0; 8];
+    let len = put_cfi_name(&mut bytes, 0, family, register);
+    Name { bytes, len }
 }
 
 #[tactic(auto, using(crate::proofs::Short::pe_whole))]
@@ -83,10 +100,34 @@ pub fn put_name(out: &mut [u8], at: usize, name: Name) -> usize
     p
 }
 
+// A letter and a number behind it.
+fn put_numbered(out: &mut [u8], at: usize, letter: u8, number: u32) -> usize
+    ensures { Put out.old at (letter ∷ decimal number) out.new result }
+{
+    let p = put_byte(out, at, letter);
+    put_decimal(out, p, number as u64)
+}
+
+#[tactic(auto, using(text::specs::Text::Laws::put_none), unfolding(crate::specs::Names::arm64_cfi_name))]
+fn put_arm64_cfi_name(out: &mut [u8], at: usize, register: u32) -> usize
+    ensures { Put out.old at (arm64_cfi_name register) out.new result }
+{
+    match register {
+        ..=30 => put_numbered(out, at, b'x', register),
+        31 => put_bytes(out, at, b"sp"),
+        64..=95 => put_numbered(out, at, b'v', register - 64),
+        _ => at,
+    }
+}
+
+#[tactic(auto, unfolding(crate::specs::Names::cfi_name))]
 pub fn put_cfi_name(out: &mut [u8], at: usize, family: u32, register: u32) -> usize
     ensures { Put out.old at (cfi_name family register) out.new result }
 {
-    put_bytes(out, at, cfi_name(family, register))
+    match family {
+        ARM64 | ARM64_32 => put_arm64_cfi_name(out, at, register),
+        _ => put_bytes(out, at, listed_name(family, register)),
+    }
 }
 
 pub fn put_pe_name(out: &mut [u8], at: usize, register: u32) -> usize
@@ -100,6 +141,5 @@ pub fn put_arm64_name(out: &mut [u8], at: usize, letter: u32, register: u32) -> 
     ensures { Put out.old at (arm64_name letter register) out.new result }
 {
     let p = put_byte(out, at, b'.');
-    let p = put_byte(out, p, letter_byte(letter));
-    put_decimal(out, p, register as u64)
+    put_numbered(out, p, letter_byte(letter), register)
 }

@@ -1,8 +1,8 @@
 -- The code's rules and the rules of a line that they stand for.
 use Rattle.std.specs.Prelude.{ℕ, List}
 use Rattle.text.specs.Text.{ascii}
-use Rattle.tables.specs.Tables.{cfi_name, pe_name}
-use Rattle.names.specs.Names.{arm64_name, name_text}
+use Rattle.tables.specs.Tables.{pe_name}
+use Rattle.names.specs.Names.{cfi_name, arm64_name, name_text}
 use Rattle.lines.specs.Lines as L
 use Rattle.rules.specs.declared.Reg.{Reg}
 use Rattle.rules.specs.declared.Reg.TheVariants.{Sp, Pe, Cfi, Arm64}

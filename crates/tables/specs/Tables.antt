@@ -1,4 +1,5 @@
--- Register names by number (document 01, Names): the six tables of symbolic-cfi entry for entry, and the PE x64 names in Microsoft's numbering.
+-- Register names by number (document 01, Names): the tables of symbolic-cfi entry for entry, but for 64-bit ARM's, whose names go by the rule of
+-- names/specs/Names.antt (document 02, request 4); and the PE x64 names in Microsoft's numbering.
 -- An empty or missing entry is no name.
 use Rattle.std.specs.Prelude.{ℕ, cond, List, [], ◌∷◌, get_or, eqb}
 use Rattle.text.specs.Text.{ascii}
@@ -44,22 +45,6 @@ arm =
     ∷ ascii "s24" ∷ ascii "s25" ∷ ascii "s26" ∷ ascii "s27" ∷ ascii "s28" ∷ ascii "s29" ∷ ascii "s30" ∷ ascii "s31"
     ∷ ascii "f0" ∷ ascii "f1" ∷ ascii "f2" ∷ ascii "f3" ∷ ascii "f4" ∷ ascii "f5" ∷ ascii "f6" ∷ ascii "f7" ∷ []
 
--- 64-bit ARM
-unfoldable pub arm64 : List (List ℕ)
-arm64 =
-    ascii "x0" ∷ ascii "x1" ∷ ascii "x2" ∷ ascii "x3" ∷ ascii "x4" ∷ ascii "x5" ∷ ascii "x6" ∷ ascii "x7"
-    ∷ ascii "x8" ∷ ascii "x9" ∷ ascii "x10" ∷ ascii "x11" ∷ ascii "x12" ∷ ascii "x13" ∷ ascii "x14" ∷ ascii "x15"
-    ∷ ascii "x16" ∷ ascii "x17" ∷ ascii "x18" ∷ ascii "x19" ∷ ascii "x20" ∷ ascii "x21" ∷ ascii "x22" ∷ ascii "x23"
-    ∷ ascii "x24" ∷ ascii "x25" ∷ ascii "x26" ∷ ascii "x27" ∷ ascii "x28" ∷ ascii "x29" ∷ ascii "x30" ∷ ascii "sp"
-    ∷ ascii "" ∷ ascii "" ∷ ascii "" ∷ ascii "" ∷ ascii "" ∷ ascii "" ∷ ascii "" ∷ ascii ""
-    ∷ ascii "" ∷ ascii "" ∷ ascii "" ∷ ascii "" ∷ ascii "" ∷ ascii "" ∷ ascii "" ∷ ascii ""
-    ∷ ascii "" ∷ ascii "" ∷ ascii "" ∷ ascii "" ∷ ascii "" ∷ ascii "" ∷ ascii "" ∷ ascii ""
-    ∷ ascii "" ∷ ascii "" ∷ ascii "" ∷ ascii "" ∷ ascii "" ∷ ascii "" ∷ ascii "" ∷ ascii ""
-    ∷ ascii "v0" ∷ ascii "v1" ∷ ascii "v2" ∷ ascii "v3" ∷ ascii "v4" ∷ ascii "v5" ∷ ascii "v6" ∷ ascii "v7"
-    ∷ ascii "v8" ∷ ascii "v9" ∷ ascii "v10" ∷ ascii "v11" ∷ ascii "v12" ∷ ascii "v13" ∷ ascii "v14" ∷ ascii "v15"
-    ∷ ascii "v16" ∷ ascii "v17" ∷ ascii "v18" ∷ ascii "v19" ∷ ascii "v20" ∷ ascii "v21" ∷ ascii "v22" ∷ ascii "v23"
-    ∷ ascii "v24" ∷ ascii "v25" ∷ ascii "v26" ∷ ascii "v27" ∷ ascii "v28" ∷ ascii "v29" ∷ ascii "v30" ∷ ascii "v31" ∷ []
-
 -- 32-bit and 64-bit PowerPC
 unfoldable pub ppc : List (List ℕ)
 ppc =
@@ -98,16 +83,16 @@ pe_x64 =
     ascii "$rax" ∷ ascii "$rcx" ∷ ascii "$rdx" ∷ ascii "$rbx" ∷ ascii "$rsp" ∷ ascii "$rbp" ∷ ascii "$rsi" ∷ ascii "$rdi"
     ∷ ascii "$r8" ∷ ascii "$r9" ∷ ascii "$r10" ∷ ascii "$r11" ∷ ascii "$r12" ∷ ascii "$r13" ∷ ascii "$r14" ∷ ascii "$r15" ∷ []
 
--- a family's table, by the numbers of `CpuFamily`: 1 Intel32, 2 Amd64, 3 Arm32, 4 Arm64, 5 Ppc32, 6 Ppc64, 7 Mips32, 8 Mips64, 9 Arm64_32;
--- 0 Unknown and 10 Wasm32 have none
+-- a family's table, by the numbers of `CpuFamily`: 1 Intel32, 2 Amd64, 3 Arm32, 5 Ppc32, 6 Ppc64, 7 Mips32, 8 Mips64; 4 Arm64 and 9 Arm64_32 need
+-- none, 0 Unknown and 10 Wasm32 have none
 unfoldable pub table : ℕ → List (List ℕ)
 table f =
-    cond (eqb f 1) i386 (cond (eqb f 2) x86_64 (cond (eqb f 3) arm (cond (eqb f 4) arm64 (cond (eqb f 5) ppc (cond (eqb f 6) ppc
-    (cond (eqb f 7) mips (cond (eqb f 8) mips (cond (eqb f 9) arm64 []))))))))
+    cond (eqb f 1) i386 (cond (eqb f 2) x86_64 (cond (eqb f 3) arm (cond (eqb f 5) ppc (cond (eqb f 6) ppc
+    (cond (eqb f 7) mips (cond (eqb f 8) mips []))))))
 
--- 01, Names: by family, numbered as `CpuFamily`; a missing entry is no name
-unfoldable pub cfi_name : ℕ → ℕ → List ℕ
-cfi_name family register = get_or (table family) register []
+-- 01, Names: by a family's table; a missing entry is no name
+unfoldable pub listed_name : ℕ → ℕ → List ℕ
+listed_name family register = get_or (table family) register []
 
 -- 01, Names: PE x64 registers follow Microsoft
 unfoldable pub pe_name : ℕ → List ℕ

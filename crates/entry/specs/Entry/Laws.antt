@@ -1,11 +1,9 @@
 -- Every kind judges by its layout, its skipping and its reach, in this order: what follows for an entry that is written, or that is not refused.
-use Rattle.std.specs.Prelude.{◌≡◌, refl, Bool, true, false, cond, List, [], ℕ, T, Option, None, Some, Result, Ok, Err}
+use Rattle.std.specs.Prelude.{◌≡◌, refl, Bool, true, false, cond, List, [], ℕ, T, Option, None, Some, Ok, Err}
 use Rattle.std.proofs.Common.{arith}
 use Rattle.refusal.specs.declared.Refusal.{Refusal}
 use Rattle.refusal.specs.declared.Refusal.TheVariants.{Layout}
-use Rattle.refusal.specs.Refusal.{number}
 use Rattle.refusal.specs.Refusal.Laws.{numbered}
-use Rattle.entry.specs.declared.Fate.{Fate}
 use Rattle.entry.specs.declared.Fate.TheVariants.{Skip, Write}
 use Rattle.entry.specs.declared.Last.{Last}
 use Rattle.entry.specs.Entry.{Judged, comes_to}

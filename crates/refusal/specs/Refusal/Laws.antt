@@ -1,5 +1,5 @@
 -- A number tells whether there is a refusal.
-use Rattle.std.specs.Prelude.{◌≡◌, ℕ}
+use Rattle.std.specs.Prelude.{◌≡◌}
 use Rattle.std.proofs.Common.{arith}
 use Rattle.refusal.specs.declared.Refusal.{Refusal}
 use Rattle.refusal.specs.declared.Refusal.TheVariants.{Work, Limit, Contents, Layout, Chain, Reach, Frame, Long, Room, Version, Truncated, Code}

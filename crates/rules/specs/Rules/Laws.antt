@@ -1,11 +1,12 @@
 -- Every name of the tables, and so every rule of the code with a name of them, is well formed: a computed test over each table.
-use Rattle.std.specs.Prelude.{ℕ, zero, suc, Bool, true, false, cond, List, [], ◌∷◌, ◌++◌, get_or, T, eqb}
+use Rattle.std.specs.Prelude.{ℕ, zero, suc, Bool, true, false, cond, ◌||◌, List, [], ◌∷◌, ◌++◌, get_or, T, eqb}
 use Rattle.text.specs.Text.{ascii}
 use Rattle.text.specs.Tests.{all, and_l, and_r, both, either}
 use Rattle.digits.specs.Digits.{digit, decimal}
 use Rattle.digits.specs.Digits.Laws.{decimal_all}
-use Rattle.tables.specs.Tables.{i386, x86_64, arm, arm64, ppc, mips, pe_x64, table, cfi_name, pe_name}
-use Rattle.names.specs.Names.{letter_of, arm64_name, name_text}
+use Rattle.tables.specs.Tables.{i386, x86_64, arm, ppc, mips, pe_x64, table, listed_name, pe_name}
+use Rattle.names.specs.Names.{arm64_cfi_name, cfi_name, letter_of, arm64_name, name_text}
+use Rattle.names.specs.Names.Laws.{arm64_cfi_each}
 use Rattle.lines.specs.Lines.{Bytes, name_byte, name_ok, register_ok, form_ok, rule_ok}
 use Rattle.rules.specs.Rules.{reg_name, form_of, rule_of}
 use Rattle.rules.specs.declared.Reg.{Reg}
@@ -20,15 +21,24 @@ all_get_d p (n ∷ ns) zero h k = and_l (p n) _ h
 all_get_d p (n ∷ ns) (suc r) h k = all_get_d p ns r (and_r (p n) _ h) k
 
 table_ok : (f : ℕ) → T (all register_ok (table f))
-unfolding table i386 x86_64 arm arm64 ppc mips
+unfolding table i386 x86_64 arm ppc mips
 table_ok f =
     let by = either (all register_ok) in
-    by (eqb f 1) i386 _ tt (by (eqb f 2) x86_64 _ tt (by (eqb f 3) arm _ tt (by (eqb f 4) arm64 _ tt (by (eqb f 5) ppc _ tt
-    (by (eqb f 6) ppc _ tt (by (eqb f 7) mips _ tt (by (eqb f 8) mips _ tt (by (eqb f 9) arm64 [] tt tt))))))))
+    by (eqb f 1) i386 _ tt (by (eqb f 2) x86_64 _ tt (by (eqb f 3) arm _ tt (by (eqb f 5) ppc _ tt
+    (by (eqb f 6) ppc _ tt (by (eqb f 7) mips _ tt (by (eqb f 8) mips [] tt tt))))))
+
+listed_ok : (f r : ℕ) → T (register_ok (listed_name f r))
+unfolding listed_name
+listed_ok f r = all_get_d register_ok (table f) r (table_ok f) tt
+
+arm64_cfi_ok : (r : ℕ) → T (register_ok (arm64_cfi_name r))
+unfolding digit
+arm64_cfi_ok r = arm64_cfi_each (λ n. T (register_ok n)) (λ n h. both (name_ok (decimal n)) _ (decimal_all name_byte n tt) tt) tt
+    (λ n h. both (name_ok (decimal n)) _ (decimal_all name_byte n tt) tt) tt r
 
 pub cfi_ok : (f r : ℕ) → T (register_ok (cfi_name f r))
 unfolding cfi_name
-cfi_ok f r = all_get_d register_ok (table f) r (table_ok f) tt
+cfi_ok f r = either register_ok (eqb f 4 || eqb f 9) (arm64_cfi_name r) (listed_name f r) (arm64_cfi_ok r) (listed_ok f r)
 
 pub pe_ok : (r : ℕ) → T (register_ok (pe_name r))
 unfolding pe_name pe_x64
