@@ -2,16 +2,14 @@
 use mathlib.Core.Path.{◌≡◌, refl, sym, ap, ◌∙◌}
 use Prim.Native.Nat.{ℕ, ◌≤◌}
 use native.Mathlib.Omega.{arith}
-use mathlib.Core.Bool.{Bool, true, false, cond, ◌&&◌, ◌||◌}
+use mathlib.Core.Bool.{Bool, true, false, cond, ◌&&◌}
 use mathlib.Core.List.{List, [], ◌∷◌, ◌++◌}
-use lib.ListN.{length, get_or, get_or-eq_default}
-use lib.Dec.{eqb}
+use lib.ListN.{length}
 use Rattle.text.specs.Text.{ascii, MAX, Put}
 use Rattle.text.specs.Tests.{any}
 use Rattle.text.specs.Text.Laws.{put_as, put_none}
-use Rattle.tables.specs.Tables.{table, listed_name, i386, x86_64, arm, ppc, mips}
-use Rattle.names.specs.Names.{arm64_cfi_name, cfi_name}
-use Rattle.names.specs.Names.Laws.{arm64_cfi_past}
+use Rattle.names.specs.Names.{cfi_name}
+use Rattle.names.specs.Names.Laws.{cfi_past}
 use Rattle.lines.specs.Lines.{Bytes, rule_text}
 use Rattle.rules.specs.Rules.{rule_of}
 use Rattle.rules.specs.declared.Rule.{Rule}
@@ -19,25 +17,10 @@ use Rattle.dwarf.specs.Dwarf.{named_bytes}
 use Rattle.dwarf.specs.Cache.{formatted}
 use Rattle.std.specs.Prelude.{Option, Some, None, is_some}
 
--- ---- no table reaches register 65,536
-
-either_short : (t : Bool) (xs ys : List Bytes) → length xs ≤ 65536 → length ys ≤ 65536 → length (cond t xs ys) ≤ 65536
-either_short true xs ys h k = h
-either_short false xs ys h k = k
-
-table_short : (f : ℕ) → length (table f) ≤ 65536
-unfolding table i386 x86_64 arm ppc mips
-table_short f = either_short (eqb f 1) i386 _ (omega arith) (either_short (eqb f 2) x86_64 _ (omega arith) (either_short (eqb f 3) arm _ (omega arith)
-    (either_short (eqb f 5) ppc _ (omega arith) (either_short (eqb f 6) ppc _ (omega arith)
-    (either_short (eqb f 7) mips _ (omega arith) (either_short (eqb f 8) mips [] (omega arith) (omega arith)))))))
+-- ---- no name reaches register 65,536
 
 pub name_far : (f v : ℕ) → 65536 ≤ v → cfi_name f v ≡ []
-unfolding cfi_name listed_name
-name_far f v h = go (eqb f 4 || eqb f 9)
-  where
-    go : (t : Bool) → cond t (arm64_cfi_name v) (get_or (table f) v []) ≡ []
-    go true = arm64_cfi_past v (omega arith)
-    go false = get_or-eq_default (table f) [] (omega (arith, table_short f))
+name_far f v h = cfi_past f v (omega arith)
 
 -- ---- forms and rules that may not be there
 

@@ -44,6 +44,7 @@ pub fn has_cfi_name(family: u32, register: u32) -> bool
 }
 
 // The first eight bytes of a text.
+#[tactic(auto, using(crate::proofs::Short::name_whole, crate::proofs::Short::front_short), unfolding(crate::specs::Names::name_text))]
 pub fn name_of(text: &[u8]) -> Name
     ensures { name_text result ≡ take 8 text.now }
 {
@@ -52,6 +53,7 @@ pub fn name_of(text: &[u8]) -> Name
     Name { bytes, len }
 }
 
+#[tactic(auto, using(crate::proofs::Short::name_whole, crate::proofs::Short::cfi_short), unfolding(crate::specs::Names::name_text))]
 pub fn cfi_register_name(family: u32, register: u32) -> Name
     ensures { name_text result ≡ cfi_name family register }
 {
@@ -80,6 +82,7 @@ fn letter_byte(letter: u32) -> u8
 }
 
 // A register of ARM64 unwind codes, by its letter and number: below 1,000, so that the name has its eight bytes.
+#[tactic(auto, using(crate::proofs::Short::name_whole, crate::proofs::Short::arm64_short), unfolding(crate::specs::Names::name_text))]
 pub fn arm64_register_name(letter: u32, register: u32) -> Name
     requires { register < 1000 }
     ensures { name_text result ≡ arm64_name letter register }

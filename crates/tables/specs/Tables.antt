@@ -3,6 +3,7 @@
 -- An empty or missing entry is no name.
 use Rattle.std.specs.Prelude.{ℕ, cond, List, [], ◌∷◌, get_or, eqb}
 use Rattle.text.specs.Text.{ascii}
+pub mod Laws
 
 -- x86, by DWARF register number
 unfoldable pub i386 : List (List ℕ)

@@ -1,11 +1,13 @@
--- What holds of the names of 64-bit ARM by their rule.
-use Rattle.std.specs.Prelude.{◌≡◌, ℕ, ◌-◌, ◌≤◌, Bool, true, false, cond, ◌&&◌, List, [], ◌++◌, leb, eqb}
+-- What holds of the names of 64-bit ARM by their rule; how far the names of any family reach.
+use Rattle.std.specs.Prelude.{◌≡◌, ℕ, ◌-◌, ◌≤◌, Bool, true, false, cond, ◌&&◌, ◌||◌, List, [], ◌++◌, leb, eqb}
 use Rattle.std.proofs.Common.{refl, arith, ⊎_elim}
 use Rattle.std.proofs.lemmas.Bool.Decides.{leb_tells}
 use borrow.Author.Tests.{lt-leb, ne_eqb}
 use Rattle.text.specs.Text.{ascii}
 use Rattle.digits.specs.Digits.{decimal}
-use Rattle.names.specs.Names.{arm64_cfi_name}
+use Rattle.tables.specs.Tables.{listed_name}
+use Rattle.tables.specs.Tables.Laws.{listed_past}
+use Rattle.names.specs.Names.{arm64_cfi_name, cfi_name}
 
 -- what holds of x and a number up to 30, of sp, of v and a number up to 31, and of no name, holds of each
 pub arm64_cfi_each {ℓ} : (P : List ℕ → Type ℓ) → ((n : ℕ) → n ≤ 30 → P (ascii "x" ++ decimal n)) → P (ascii "sp")
@@ -30,3 +32,12 @@ arm64_cfi_past r h = rw (lt-leb r 30 (omega arith), ne_eqb r 31 (λ e. omega ari
     by : (t : Bool) → cond (t && false) (ascii "v" ++ decimal (r - 64)) [] ≡ []
     by true = refl
     by false = refl
+
+-- no family has one past the longest table
+pub cfi_past : (family register : ℕ) → 117 ≤ register → cfi_name family register ≡ []
+unfolding cfi_name
+cfi_past f r h = by (eqb f 4 || eqb f 9)
+  where
+    by : (t : Bool) → cond t (arm64_cfi_name r) (listed_name f r) ≡ []
+    by true = arm64_cfi_past r (omega arith)
+    by false = listed_past f r h

@@ -1,13 +1,14 @@
--- Every name of the tables, and so every rule of the code with a name of them, is well formed: a computed test over each table.
-use Rattle.std.specs.Prelude.{ℕ, zero, suc, Bool, true, false, cond, ◌||◌, List, [], ◌∷◌, ◌++◌, get_or, T, eqb}
+-- Every name, and so every rule of the code with one, is well formed: of the tables by a computed test over each, of numbered registers by their digits.
+use Rattle.std.specs.Prelude.{ℕ, Bool, true, false, cond, ◌||◌, ◌++◌, T, eqb}
 use Rattle.text.specs.Text.{ascii}
-use Rattle.text.specs.Tests.{all, and_l, and_r, both, either}
+use Rattle.text.specs.Tests.{both, either}
 use Rattle.digits.specs.Digits.{digit, decimal}
 use Rattle.digits.specs.Digits.Laws.{decimal_all}
-use Rattle.tables.specs.Tables.{i386, x86_64, arm, ppc, mips, pe_x64, table, listed_name, pe_name}
+use Rattle.tables.specs.Tables.{i386, x86_64, arm, ppc, mips, pe_x64, listed_name, pe_name}
+use Rattle.tables.specs.Tables.Laws.{listed_all, pe_all}
 use Rattle.names.specs.Names.{arm64_cfi_name, cfi_name, letter_of, arm64_name, name_text}
 use Rattle.names.specs.Names.Laws.{arm64_cfi_each}
-use Rattle.lines.specs.Lines.{Bytes, name_byte, name_ok, register_ok, form_ok, rule_ok}
+use Rattle.lines.specs.Lines.{name_byte, name_ok, register_ok, form_ok, rule_ok}
 use Rattle.rules.specs.Rules.{reg_name, form_of, rule_of}
 use Rattle.rules.specs.declared.Reg.{Reg}
 use Rattle.rules.specs.declared.Reg.TheVariants.{Sp, Pe, Cfi, Arm64}
@@ -15,21 +16,9 @@ use Rattle.rules.specs.declared.Form.{Form}
 use Rattle.rules.specs.declared.Form.TheVariants.{Register, RegisterPlus, AtRegisterPlus, CfaPlus, AtCfaPlus, AtCfaMinus}
 use Rattle.rules.specs.declared.Rule.{Rule}
 
-all_get_d : (p : Bytes → Bool) (ns : List Bytes) (r : ℕ) → T (all p ns) → T (p []) → T (p (get_or ns r []))
-all_get_d p [] r h k = k
-all_get_d p (n ∷ ns) zero h k = and_l (p n) _ h
-all_get_d p (n ∷ ns) (suc r) h k = all_get_d p ns r (and_r (p n) _ h) k
-
-table_ok : (f : ℕ) → T (all register_ok (table f))
-unfolding table i386 x86_64 arm ppc mips
-table_ok f =
-    let by = either (all register_ok) in
-    by (eqb f 1) i386 _ tt (by (eqb f 2) x86_64 _ tt (by (eqb f 3) arm _ tt (by (eqb f 5) ppc _ tt
-    (by (eqb f 6) ppc _ tt (by (eqb f 7) mips _ tt (by (eqb f 8) mips [] tt tt))))))
-
 listed_ok : (f r : ℕ) → T (register_ok (listed_name f r))
-unfolding listed_name
-listed_ok f r = all_get_d register_ok (table f) r (table_ok f) tt
+unfolding i386 x86_64 arm ppc mips
+listed_ok f r = listed_all register_ok tt tt tt tt tt tt f r
 
 arm64_cfi_ok : (r : ℕ) → T (register_ok (arm64_cfi_name r))
 unfolding digit
@@ -41,8 +30,8 @@ unfolding cfi_name
 cfi_ok f r = either register_ok (eqb f 4 || eqb f 9) (arm64_cfi_name r) (listed_name f r) (arm64_cfi_ok r) (listed_ok f r)
 
 pub pe_ok : (r : ℕ) → T (register_ok (pe_name r))
-unfolding pe_name pe_x64
-pe_ok r = all_get_d register_ok pe_x64 r tt tt
+unfolding pe_x64
+pe_ok r = pe_all register_ok tt tt r
 
 pub arm64_ok : (l r : ℕ) → T (register_ok (arm64_name l r))
 unfolding arm64_name letter_of digit
