@@ -176,6 +176,11 @@ pub layout_few : (ws : List ℕ) → T (arm_layout ws) → op_count ws ≤ 1024
 unfolding arm_layout
 layout_few ws h = leb→le (op_count ws) 1024 (and_l (leb (op_count ws) 1024) _ h)
 
+-- where they are not too many, the operations and the length decide the layout
+pub layout_counted : (ws : List ℕ) → op_count ws ≤ 1024 → ops_fit ws 3 (op_count ws) ≡ arm_layout ws
+unfolding arm_layout
+layout_counted ws h = rw (le-leb (op_count ws) 1024 h)
+
 -- the words of the operations that count
 abbrev pub counting_of : List ℕ → List (List ℕ)
 counting_of ws = counting_words ws 3 (op_count ws)

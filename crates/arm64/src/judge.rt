@@ -47,6 +47,25 @@ fn width_of(letter: u32) -> u64
 }
 
 impl Saved {
+    // A register at [sp, #value], where the stack has this total.
+    fn get_indexed(letter: u32, register: u32, value: u32, total: u64) -> Saved
+        ensures { result ≡ saved letter register value total }
+    {
+        Saved {
+            letter,
+            register: register as u64,
+            a: value as u64,
+            b: total,
+        }
+    }
+
+    // A register at [sp, #-value]!: the stack has grown to this total first, and it lies at its end.
+    fn get_pre_indexed(letter: u32, register: u32, total: u64) -> Saved
+        ensures { result ≡ saved letter register 0 total }
+    {
+        Saved::get_indexed(letter, register, 0, total)
+    }
+
     // x30, the link register. & and not &&, here and below: both sides are cheap, and no path forks, in the code or in the proof.
     pub(crate) fn is_lr(self) -> bool
         ensures { result ≡ is_lr self }
@@ -104,11 +123,12 @@ impl BreakpadEncoder {
         self
     }
 
-    // The CFA, where the stack has grown to this total.
-    fn touch_cfa(mut self, total: u64) -> BreakpadEncoder
-        ensures { result ≡ record self { stack_size = total; cfa_touched = true } }
+    // The stack grows, and the CFA with it.
+    fn alloc_stack(mut self, size: u32) -> BreakpadEncoder
+        requires { self.stack_size < 2 ^ 31 }
+        ensures { result ≡ record self { stack_size = self.stack_size + size; cfa_touched = true } }
     {
-        self.stack_size = total;
+        self.stack_size = self.stack_size + size as u64;
         self.cfa_touched = true;
         self
     }
@@ -144,6 +164,34 @@ impl BreakpadEncoder {
         };
         self.saves = Saves::Paired(first, second);
         self
+    }
+
+    // One operation: the state after it, with what it writes.
+    #[tactic(auto, unfolding(crate::specs::Encoder::encoder, crate::specs::Encoder::stepped, crate::specs::Arm64::growth_of, crate::specs::Arm64::writes_cfa, crate::specs::Arm64::saves, crate::specs::Arm64::last_after))]
+    fn step(mut self, op: Op) -> BreakpadEncoder
+        requires { (self.stack_size < 2 ^ 31) × Near self.last }
+        ensures { result ≡ stepped self op }
+    {
+        let total = self.stack_size;
+        let last = self.last;
+        self = self.begin_instruction();
+        match op {
+            Op::AllocStack(v) => self.alloc_stack(v),
+            Op::SaveReg(l, r, v) => self.save_one(Saved::get_indexed(l, r, v, total)),
+            Op::SaveRegPreindexed(l, r, v) => {
+                self = self.alloc_stack(v);
+                self.save_one(Saved::get_pre_indexed(l, r, self.stack_size))
+            }
+            Op::SaveRegPair(l, r, v) => self.save_pair(Saved::get_indexed(l, r, v, total)),
+            Op::SaveRegPairPreindexed(l, r, v) => {
+                self = self.alloc_stack(v);
+                self.save_pair(Saved::get_pre_indexed(l, r, self.stack_size))
+            }
+            Op::SaveLrPair(r, v) => self.save_reg_and_lr(Saved::get_indexed(X, r, v, total)),
+            Op::SaveNext => self.save_pair(last.above()),
+            Op::Other => self.alloc_stack(0),
+            Op::End | Op::Undecodable => self,
+        }
     }
 }
 
@@ -210,67 +258,13 @@ impl InReach {
         }
     }
 
-    // The total with so many bytes more.
-    fn grown(self, size: u32) -> u64
-        ensures { result ≡ self.state.stack_size + size }
-    {
-        self.state.stack_size + size as u64
-    }
-
-    // A register at [sp, #value].
-    fn get_indexed(self, letter: u32, register: u32, value: u32) -> Saved
-        ensures { result ≡ saved letter register value self.state.stack_size }
-    {
-        Saved {
-            letter,
-            register: register as u64,
-            a: value as u64,
-            b: self.state.stack_size,
-        }
-    }
-
-    // A register at [sp, #-value]!: the stack grows first, so it lies below where the stack pointer was.
-    fn get_pre_indexed(self, letter: u32, register: u32, value: u32) -> Saved
-        ensures { result ≡ saved letter register 0 (self.state.stack_size + value) }
-    {
-        Saved {
-            letter,
-            register: register as u64,
-            a: 0,
-            b: self.grown(value),
-        }
-    }
-
-    // The state after an operation, with what it writes.
-    #[tactic(auto, unfolding(crate::specs::Encoder::encoder, crate::specs::Encoder::stepped, crate::specs::Arm64::growth_of, crate::specs::Arm64::writes_cfa, crate::specs::Arm64::saves, crate::specs::Arm64::last_after))]
-    fn run(self, op: Op) -> BreakpadEncoder
-        ensures { result ≡ stepped self.state op }
-    {
-        let state = self.state.begin_instruction();
-        match op {
-            Op::AllocStack(v) => state.touch_cfa(self.grown(v)),
-            Op::SaveReg(l, r, v) => state.save_one(self.get_indexed(l, r, v)),
-            Op::SaveRegPreindexed(l, r, v) => state
-                .save_one(self.get_pre_indexed(l, r, v))
-                .touch_cfa(self.grown(v)),
-            Op::SaveRegPair(l, r, v) => state.save_pair(self.get_indexed(l, r, v)),
-            Op::SaveRegPairPreindexed(l, r, v) => state
-                .save_pair(self.get_pre_indexed(l, r, v))
-                .touch_cfa(self.grown(v)),
-            Op::SaveLrPair(r, v) => state.save_reg_and_lr(self.get_indexed(X, r, v)),
-            Op::SaveNext => state.save_pair(self.state.last.above()),
-            Op::Other => state.touch_cfa(self.grown(0)),
-            Op::End | Op::Undecodable => state,
-        }
-    }
-
     // One operation, whose line is at `address`; none where a number of it is out of reach.
     // Inlined: as a call, a word of real books takes some 20 % more instructions.
     #[inline(always)]
     pub(crate) fn step(self, op: Op, address: u64) -> Option<InReach>
         ensures { MatchOption result (fits address self.state.stack_size self.state.last op ≡ false) (λ e. Steps address self.state op e.state) }
     {
-        let state = self.run(op);
+        let state = self.state.step(op);
         if !fits_line(address, op.value(), state) {
             return None;
         }

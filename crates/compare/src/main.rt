@@ -2,28 +2,25 @@
 #![tactic(auto)]
 
 use records::Compared;
-use std::alloc::{AllocError, Global};
 use std::fs::File;
-use std::io::Read;
 use std::rt::Files;
 use std::{env, io};
 
 const LIMIT: u32 = 32;
 
-// What a call writes to.
+// What a call writes to. A book has at most 16,384 words, and none gives 64 bytes of text.
 #[derive(Drop)]
 struct Buffers {
-    work: Vec<u8>,
-    text: Vec<u8>,
+    work: [u8; 8192],
+    text: [u8; 1048576],
 }
 
 impl Buffers {
-    // A book has at most 16,384 words, and none gives 64 bytes of text.
-    fn new(alloc: Global) -> Result<Buffers, AllocError> {
-        Ok(Buffers {
-            work: vec![in alloc; 0; 8192]?,
-            text: vec![in alloc; 0; 1048576]?,
-        })
+    fn new() -> Buffers {
+        Buffers {
+            work: [0; 8192],
+            text: [0; 1048576],
+        }
     }
 }
 
@@ -47,15 +44,8 @@ fn opened<R: Files + Eprint + AllocGlobal>(rt: &R, path: &str) -> io::Result<Opt
     }
 }
 
-fn read<R: Read>(alloc: Global, file: &mut R) -> Result<Vec<u32>, AllocError> {
-    let mut book = vec![in alloc; 0; 16384]?;
-    let n = input::read_book(file, &mut book);
-    book.truncate(n);
-    Ok(book)
-}
-
-fn say_refusal(rt: &(impl Print + AllocGlobal), which: &str, book: &[u32]) -> io::Result<()> {
-    let mut buffers = Buffers::new(rt.alloc())?;
+fn say_refusal(rt: &impl Print, which: &str, book: &[u32]) -> io::Result<()> {
+    let mut buffers = Buffers::new();
     let r = translate::translate(book, LIMIT, &mut buffers.work, &mut buffers.text);
     if let Err(refusal) = r.answer {
         println!(rt; "{which} book refused {refusal}")?;
@@ -63,10 +53,10 @@ fn say_refusal(rt: &(impl Print + AllocGlobal), which: &str, book: &[u32]) -> io
     Ok(())
 }
 
-fn compared(alloc: Global, a: &[u32], b: &[u32]) -> Result<Compared, AllocError> {
-    let mut first = Buffers::new(alloc)?;
-    let mut second = Buffers::new(alloc)?;
-    Ok(records::same_records(
+fn compared(a: &[u32], b: &[u32]) -> Compared {
+    let mut first = Buffers::new();
+    let mut second = Buffers::new();
+    records::same_records(
         a,
         LIMIT,
         &mut first.work,
@@ -75,11 +65,11 @@ fn compared(alloc: Global, a: &[u32], b: &[u32]) -> Result<Compared, AllocError>
         LIMIT,
         &mut second.work,
         &mut second.text,
-    ))
+    )
 }
 
-fn say(rt: &(impl Print + AllocGlobal), a: &[u32], b: &[u32]) -> io::Result<()> {
-    match compared(rt.alloc(), a, b)? {
+fn say(rt: &impl Print, a: &[u32], b: &[u32]) -> io::Result<()> {
+    match compared(a, b) {
         Compared::Same => println!(rt; "same records"),
         Compared::Different => println!(rt; "different records"),
         Compared::OtherKind => println!(rt; "books of two kinds"),
@@ -102,7 +92,9 @@ fn main(rt: HostRuntime) -> io::Result<()> {
     let Some(mut second) = opened(&rt, second.as_str())? else {
         return Ok(());
     };
-    let a = read(rt.alloc(), &mut first)?;
-    let b = read(rt.alloc(), &mut second)?;
-    say(&rt, &a, &b)
+    let mut a = [0; 16384];
+    let mut b = [0; 16384];
+    let n = input::read_book(&mut first, &mut a);
+    let m = input::read_book(&mut second, &mut b);
+    say(&rt, &a[..n], &b[..m])
 }

@@ -7,16 +7,16 @@ ghost use Rattle.digits.specs.Digits.{digit, digits, hex, decimal, signed};
 
 use text::put_byte;
 
-// The byte of a digit: '0' to '9', then 'a' to 'f'. Not char::from_digit, which gives an option of a char.
+// '0' to '9', then 'a' to 'f'.
+static DIGITS: [u8; 16] = *b"0123456789abcdef";
+
+// The byte of a digit, by a table.
 #[tactic(auto, unfolding(crate::specs::Digits::digit))]
 pub fn digit_of(n: u64) -> u8
     requires { n < 16 }
     ensures { result ≡ digit n }
 {
-    if n < 10 {
-        return b'0' + n as u8;
-    }
-    b'a' - 10 + n as u8
+    DIGITS[n as usize]
 }
 
 // `n` digits in base BASE: where all of them fit they are stored from the last one back.

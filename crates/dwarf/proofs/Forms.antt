@@ -47,6 +47,12 @@ no_form n t e = go (any n)
     go true = rw e
     go false = refl
 
+-- without a name there is nothing that could be new
+pub unnamed : (t : Bool) (n x : Bytes) → any n ≡ false → false ≡ (t && any (named_bytes n x))
+unfolding named_bytes any
+unnamed true n x e = rw e
+unnamed false n x e = refl
+
 -- whether there is a rule is whether it has bytes
 pub some_any : (f : Option Rule) (t : Bytes) → formatted f ≡ t → is_some f ≡ any t
 unfolding formatted any rule_text rule_of

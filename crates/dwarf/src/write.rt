@@ -1,8 +1,8 @@
 // The lines of a DWARF entry, one for each row that has something new: the CFA's rule and the registers' rules that differ from those last seen.
 // The rules of a row whose CFA is not written are looked at twice: first for whether one of them is. Writers take room and place, as text's do.
-ghost use Rattle.std.specs.Prelude.{◌≡◌, [], ◌++◌, ◌+◌, ◌<◌, ◌≤◌, cond, get_or, take, T, ◌==◌, position};
+ghost use Rattle.std.specs.Prelude.{◌≡◌, ◌&&◌, [], ◌++◌, ◌+◌, ◌<◌, ◌≤◌, cond, eqb, get_or, take, T, ◌==◌, position};
 ghost use Rattle.std.specs.List.{list_any};
-ghost use Rattle.text.specs.Text.{Put};
+ghost use Rattle.text.specs.Text.{Put, ascii};
 ghost use Rattle.text.specs.Tests.{any};
 ghost use Rattle.names.specs.Names.{cfi_name};
 ghost use Rattle.dwarf.specs.Dwarf.{rows, registers, once, seen, differs, cfa_differs, remember, no_cfa, nothing_seen};
@@ -211,6 +211,14 @@ impl Fde {
         })
     }
 
+    // Whether a register has a name: as the return register, or in its family's table.
+    #[tactic(auto, unfolding(text::specs::Tests::any))]
+    fn is_named(self, register: u32) -> bool
+        ensures { result ≡ any (cond (eqb register self.ra) (ascii ".ra") (cfi_name self.family register)) }
+    {
+        register == self.ra || has_cfi_name(self.family, register)
+    }
+
     // Whether a rule can be written: it has the names that it needs.
     #[tactic(auto, using(crate::proofs::Forms::some_any))]
     fn is_writable(self, rule: RegisterRule) -> bool
@@ -219,14 +227,22 @@ impl Fde {
         self.format_rule(rule).is_some()
     }
 
-    // Whether a rule of a row is written: it differs from the one last seen, and can be.
+    // Whether a rule is written: it differs from the one last seen, and can be. Its register's name is asked first: that takes less time than to look
+    // for the one last seen, and some families have no names.
+    #[tactic(auto, using(crate::proofs::Forms::unnamed), unfolding(crate::specs::Dwarf::rule_bytes))]
+    fn is_new(self, rule: RegisterRule, cache: &RuleCache) -> bool
+        ensures { result ≡ (differs (lookup cache.now rule.register) rule.kind rule.value && any (rule_bytes self.family self.ra rule)) }
+    {
+        self.is_named(rule.register) && cache.differs(rule) && self.is_writable(rule)
+    }
+
+    // Whether a rule of a row is written.
     fn any_new(self, rules: &[RuleWords], cache: &RuleCache) -> bool
         ensures { result ≡ list_any (new_in self.family self.ra (lookup cache.now)) rules.now }
     {
-        rules.iter().any(|words| {
-            let rule = RegisterRule::from(*words);
-            cache.differs(rule) && self.is_writable(rule)
-        })
+        rules
+            .iter()
+            .any(|words| self.is_new(RegisterRule::from(*words), cache))
     }
 
     // The rules of a row that differ from those last seen; from now on they are these.

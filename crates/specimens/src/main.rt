@@ -9,8 +9,8 @@
 // prints the numbers for each limit from 0 to 33.
 #![tactic(auto)]
 
+use arrayvec::ArrayVec;
 use refusal::answer_number;
-use std::alloc::{AllocError, Global};
 use std::io;
 use std::io::Read;
 
@@ -42,42 +42,45 @@ struct Given {
     text: usize,
 }
 
-#[derive(Drop)]
+#[derive(Clone, Copy)]
 struct Case<'a> {
     name: &'a [u8],
     given: Option<Given>,
-    book: Vec<u32>,
+    book: &'a [u32],
 }
 
 // ---- reading
 
 // The next line of the input, with its newline. A zero byte, the input's end and a read that fails end a line too.
-fn read_line<R: Read + Drop>(alloc: Global, reader: &mut R) -> Result<Vec<u8>, AllocError> {
-    let mut line = Vec::new(alloc);
+fn read_line<R: Read + Drop>(reader: &mut R) -> ArrayVec<u8, MOST_LINE> {
+    let mut line = ArrayVec::new();
     for byte in reader.by_ref().bytes().take(MOST_LINE) {
         let Ok(byte @ 1..) = byte else {
             break;
         };
-        line.push(byte)?;
-        if byte == b'\n' {
+        if line.try_push(byte).is_err() || byte == b'\n' {
             break;
         }
     }
-    Ok(line)
+    line
 }
 
-// The last words of this width so many times more, and nothing where there are fewer.
-fn repeat(words: &mut Vec<u32>, width: usize, times: u32) -> Result<(), AllocError> {
+// The last words of this width so many times more, as far as there is room, and nothing where there are fewer.
+fn repeat<const N: usize>(words: &mut ArrayVec<u32, N>, width: usize, times: u32) {
     for _ in 0..times {
-        let Some(start) = words.len().checked_sub(width) else {
-            break;
-        };
-        if MOST_WORDS <= words.len() {
-            break;
+        for _ in 0..width {
+            let Some(word) = words
+                .len()
+                .checked_sub(width)
+                .and_then(|i| words.get(i).copied())
+            else {
+                return;
+            };
+            if words.try_push(word).is_err() {
+                return;
+            }
         }
-        words.extend_from_within(start..)?;
     }
-    Ok(())
 }
 
 // The number that a word's digits end with. A number that is too large is none, and the digit behind it begins another.
@@ -90,54 +93,56 @@ fn number(word: &[u8]) -> Option<u32> {
         })
 }
 
-// The words of a part of a line. Each ends with what is no digit.
-fn words(alloc: Global, part: &[u8]) -> Result<Vec<u32>, AllocError> {
-    let mut words = Vec::new(alloc);
+// The words of a part of a line, as many as there is room for. Each ends with what is no digit.
+fn read_words<const N: usize>(part: &[u8], words: &mut ArrayVec<u32, N>) {
     for word in part.split_inclusive(|c| !c.is_ascii_digit()) {
         let Some(n) = number(word) else {
             continue;
         };
         match word.last() {
-            Some(b'*') => repeat(&mut words, 3, n)?,
-            Some(b':') => repeat(&mut words, 2, n)?,
-            _ => words.push(n)?,
+            Some(b'*') => repeat(words, 3, n),
+            Some(b':') => repeat(words, 2, n),
+            _ => {
+                if words.try_push(n).is_err() {
+                    break;
+                }
+            }
         }
     }
-    words.truncate(MOST_WORDS);
-    Ok(words)
 }
 
 impl Given {
-    fn read(alloc: Global, part: &[u8]) -> Result<Option<Given>, AllocError> {
-        let words = words(alloc, part)?;
-        let [limit, work, text, ..] = words.as_slice() else {
-            return Ok(None);
+    fn read(part: &[u8]) -> Option<Given> {
+        let mut words = ArrayVec::<u32, 3>::new();
+        read_words(part, &mut words);
+        let [limit, work, text] = *words.as_slice() else {
+            return None;
         };
-        Ok(Some(Given {
-            limit: *limit,
-            work: *work as usize,
-            text: *text as usize,
-        }))
+        Some(Given {
+            limit,
+            work: work as usize,
+            text: text as usize,
+        })
     }
 }
 
-impl<'a> Case<'a> {
-    // The case of a line, and none of a comment. The byte before the first bar is no part of the name.
-    fn read(alloc: Global, line: &'a [u8]) -> Result<Option<Case<'a>>, AllocError> {
-        if line.starts_with(b"#") {
-            return Ok(None);
-        }
-        let mut parts = line.splitn(3, |c| *c == b'|');
-        let (Some(name), Some(given), Some(book)) = (parts.next(), parts.next(), parts.next())
-        else {
-            return Ok(None);
-        };
-        Ok(Some(Case {
-            name: name.split_last().map_or(name, |(_, name)| name),
-            given: Given::read(alloc, given)?,
-            book: words(alloc, book)?,
-        }))
+// The case of a line is run; a comment is none. The byte before the first bar is no part of the name.
+fn run(rt: &impl Print, line: &[u8]) -> io::Result<()> {
+    if line.starts_with(b"#") {
+        return Ok(());
     }
+    let mut parts = line.splitn(3, |c| *c == b'|');
+    let (Some(name), Some(given), Some(book)) = (parts.next(), parts.next(), parts.next()) else {
+        return Ok(());
+    };
+    let mut words = ArrayVec::<u32, MOST_WORDS>::new();
+    read_words(book, &mut words);
+    let case = Case {
+        name: name.split_last().map_or(name, |(_, name)| name),
+        given: Given::read(given),
+        book: words.as_slice(),
+    };
+    case.run(rt)
 }
 
 // ---- calls, and what is printed of them
@@ -148,7 +153,7 @@ fn count(bytes: &[u8], byte: u8) -> usize {
 }
 
 impl Case<'_> {
-    fn run(&self, rt: &(impl Print + AllocGlobal)) -> io::Result<()> {
+    fn run(self, rt: &impl Print) -> io::Result<()> {
         rt.write_all(self.name)?;
         match self.given {
             Some(given) => self.call(rt, given),
@@ -157,17 +162,18 @@ impl Case<'_> {
     }
 
     // Where a buffer would be too long, nothing is called.
-    fn call(&self, rt: &(impl Print + AllocGlobal), given: Given) -> io::Result<()> {
+    fn call(self, rt: &impl Print, given: Given) -> io::Result<()> {
         if MOST_ROOM < given.work.max(given.text) {
             return Ok(());
         }
-        let mut work = vec![in rt.alloc(); BEFORE; given.work]?;
-        let mut text = vec![in rt.alloc(); BEFORE; given.text]?;
-        let r = translate::translate(&self.book, given.limit, &mut work, &mut text);
+        let mut work = [BEFORE; MOST_ROOM];
+        let mut text = [BEFORE; MOST_ROOM];
+        let (work, text) = (&mut work[..given.work], &mut text[..given.text]);
+        let r = translate::translate(self.book, given.limit, work, text);
         let number = answer_number(r.answer);
         print!(rt; ": {number} {} {}", r.entries, r.length)?;
         let beyond = work.get(AREA..).unwrap_or_default();
-        print!(rt; ", work {} {}", count(&work, 0), count(beyond, BEFORE))?;
+        print!(rt; ", work {} {}", count(work, 0), count(beyond, BEFORE))?;
         let (written, rest) = text.split_at(r.length);
         println!(rt; ", text {}", count(rest, BEFORE))?;
         if r.length < LONG {
@@ -176,12 +182,12 @@ impl Case<'_> {
         Ok(())
     }
 
-    fn limits(&self, rt: &(impl Print + AllocGlobal)) -> io::Result<()> {
+    fn limits(self, rt: &impl Print) -> io::Result<()> {
         print!(rt; ":")?;
         for limit in 0..34 {
-            let mut work = vec![in rt.alloc(); BEFORE; AREA]?;
-            let mut text = vec![in rt.alloc(); BEFORE; 1000]?;
-            let r = translate::translate(&self.book, limit, &mut work, &mut text);
+            let mut work = [BEFORE; AREA];
+            let mut text = [BEFORE; 1000];
+            let r = translate::translate(self.book, limit, &mut work, &mut text);
             print!(rt; " {}", answer_number(r.answer))?;
         }
         println!(rt)
@@ -191,13 +197,11 @@ impl Case<'_> {
 fn main(rt: HostRuntime) -> io::Result<()> {
     let mut reader = rt.reader();
     for _ in 0..MOST_LINES {
-        let line = read_line(rt.alloc(), &mut reader)?;
+        let line = read_line(&mut reader);
         if line.is_empty() {
             break;
         }
-        if let Some(case) = Case::read(rt.alloc(), &line)? {
-            case.run(&rt)?;
-        }
+        run(&rt, &line)?;
     }
     Ok(())
 }

@@ -7,9 +7,9 @@ use std::io;
 const LIMIT: u32 = 32;
 
 fn main(rt: HostRuntime) -> io::Result<()> {
-    let mut book = vec![in rt.alloc(); 0; 16384]?;
-    let mut work = vec![in rt.alloc(); 0; 8192]?;
-    let mut text = vec![in rt.alloc(); 0; 65536]?;
+    let mut book = [0; 16384];
+    let mut work = [0; 8192];
+    let mut text = [0; 65536];
     let n = input::read_book(&mut rt.reader(), &mut book);
     let r = translate::translate(&book[..n], LIMIT, &mut work, &mut text);
     rt.write_all(&text[..r.length])?;

@@ -1,14 +1,37 @@
 // Register names by register number, a table for a CPU family, as Breakpad's records write them. An empty name is none, as document 01 has it. The families
-// of 64-bit ARM have no table: the crate names has their rule.
+// of 64-bit ARM have no table: the crate names has their rule. A table holds the bytes of its names and no pointers, which a linker would have to relocate.
 // The comment behind a row is the number of its first register.
 #![tactic(auto)]
 
-ghost use Rattle.std.specs.Prelude.{◌≡◌, [], get_or, map};
+ghost use Rattle.std.specs.Prelude.{◌≡◌, [], get_or, map, take, drop};
 ghost use Rattle.tables.specs.Tables.{table, listed_name, pe_name};
+
+// A name's entry: its length, and eight bytes.
+macro_rules! entries {
+    ($($name:literal),* $(,)?) => {
+        [$([
+            $name.len() as u8,
+            byte!($name, 0),
+            byte!($name, 1),
+            byte!($name, 2),
+            byte!($name, 3),
+            byte!($name, 4),
+            byte!($name, 5),
+            byte!($name, 6),
+            byte!($name, 7),
+        ]),*]
+    };
+}
+
+macro_rules! byte {
+    ($name:literal, $i:literal) => {
+        if $name.len() > $i { $name[$i] } else { 0 }
+    };
+}
 
 // x86, by DWARF register number.
 #[rattlefmt::skip]
-static I386: [&[u8]; 50] = [
+static I386: [[u8; 9]; 50] = entries![
     b"$eax", b"$ecx", b"$edx", b"$ebx", b"$esp", b"$ebp", b"$esi", b"$edi", // 0
     b"$eip", b"$eflags", b"$unused1", b"$st0", b"$st1", b"$st2", b"$st3", b"$st4", // 8
     b"$st5", b"$st6", b"$st7", b"$unused2", b"$unused3", b"$xmm0", b"$xmm1", b"$xmm2", // 16
@@ -20,7 +43,7 @@ static I386: [&[u8]; 50] = [
 
 // x86-64, by DWARF register number.
 #[rattlefmt::skip]
-static X86_64: [&[u8]; 67] = [
+static X86_64: [[u8; 9]; 67] = entries![
     b"$rax", b"$rdx", b"$rcx", b"$rbx", b"$rsi", b"$rdi", b"$rbp", b"$rsp", // 0
     b"$r8", b"$r9", b"$r10", b"$r11", b"$r12", b"$r13", b"$r14", b"$r15", // 8
     b"$rip", b"$xmm0", b"$xmm1", b"$xmm2", b"$xmm3", b"$xmm4", b"$xmm5", b"$xmm6", // 16
@@ -34,7 +57,7 @@ static X86_64: [&[u8]; 67] = [
 
 // 32-bit ARM.
 #[rattlefmt::skip]
-static ARM: [&[u8]; 104] = [
+static ARM: [[u8; 9]; 104] = entries![
     b"r0", b"r1", b"r2", b"r3", b"r4", b"r5", b"r6", b"r7", // 0
     b"r8", b"r9", b"r10", b"r11", b"r12", b"sp", b"lr", b"pc", // 8
     b"f0", b"f1", b"f2", b"f3", b"f4", b"f5", b"f6", b"f7", // 16
@@ -52,7 +75,7 @@ static ARM: [&[u8]; 104] = [
 
 // 32-bit and 64-bit PowerPC.
 #[rattlefmt::skip]
-static PPC: [&[u8]; 117] = [
+static PPC: [[u8; 9]; 117] = entries![
     b"r0", b"r1", b"r2", b"r3", b"r4", b"r5", b"r6", b"r7", // 0
     b"r8", b"r9", b"r10", b"r11", b"r12", b"r13", b"r14", b"r15", // 8
     b"r16", b"r17", b"r18", b"r19", b"r20", b"r21", b"r22", b"r23", // 16
@@ -72,7 +95,7 @@ static PPC: [&[u8]; 117] = [
 
 // MIPS.
 #[rattlefmt::skip]
-static MIPS: [&[u8]; 68] = [
+static MIPS: [[u8; 9]; 68] = entries![
     b"$zero", b"$at", b"$v0", b"$v1", b"$a0", b"$a1", b"$a2", b"$a3", // 0
     b"$t0", b"$t1", b"$t2", b"$t3", b"$t4", b"$t5", b"$t6", b"$t7", // 8
     b"$s0", b"$s1", b"$s2", b"$s3", b"$s4", b"$s5", b"$s6", b"$s7", // 16
@@ -86,15 +109,15 @@ static MIPS: [&[u8]; 68] = [
 
 // x64 in unwind codes, in Microsoft's numbering.
 #[rattlefmt::skip]
-static PE_X64: [&[u8]; 16] = [
+static PE_X64: [[u8; 9]; 16] = entries![
     b"$rax", b"$rcx", b"$rdx", b"$rbx", b"$rsp", b"$rbp", b"$rsi", b"$rdi", // 0
     b"$r8", b"$r9", b"$r10", b"$r11", b"$r12", b"$r13", b"$r14", b"$r15", // 8
 ];
 
 // The table of a family, by its number in docs/BOOK.md. A family is a word of the body, and any number is one: those without a table have no names.
 #[tactic(auto, unfolding(crate::specs::Tables::table, crate::specs::Tables::i386, crate::specs::Tables::x86_64, crate::specs::Tables::arm, crate::specs::Tables::ppc, crate::specs::Tables::mips))]
-fn table(family: u32) -> &'static [&'static [u8]]
-    ensures { map (λ name. name.now) result.now ≡ table family }
+fn table(family: u32) -> &'static [[u8; 9]]
+    ensures { map (λ e. take (get_or e 0 0) (drop 1 e)) result.now ≡ table family }
 {
     match family {
         1 => &I386,
@@ -106,10 +129,17 @@ fn table(family: u32) -> &'static [&'static [u8]]
     }
 }
 
-fn entry(names: &[&'static [u8]], register: u32) -> &'static [u8]
-    ensures { result.now ≡ get_or (map (λ name. name.now) names.now) register [] }
+// The name of an entry.
+fn entry(names: &'static [[u8; 9]], register: u32) -> &'static [u8]
+    ensures { result.now ≡ get_or (map (λ e. take (get_or e 0 0) (drop 1 e)) names.now) register [] }
 {
-    names.get(register as usize).copied().unwrap_or(b"")
+    let Some(entry) = names.get(register as usize) else {
+        return b"";
+    };
+    let entry = &entry[..];
+    // Every length is 8 at most; min says so here.
+    let len = (entry[0] as usize).min(8);
+    &entry[1..1 + len]
 }
 
 // A register in DWARF rows, by family and number, where the family has a table.

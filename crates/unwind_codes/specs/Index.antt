@@ -1,13 +1,14 @@
 -- The table by a first byte, and the forms that the code's loops walk.
 use Rattle.std.specs.Prelude.{◌≡◌, refl, Bool, true, false, not, cond, ◌&&◌, ◌||◌, List, [], ◌∷◌, ℕ, zero, suc, ◌+◌, ◌-◌, ◌*◌, ◌/◌, ◌%◌, ◌^◌, ◌≤◌, ◌<◌, T, length, get_or, drop, eqb, leb}
-use Rattle.std.proofs.Common.{sym, ap, ◌∙◌, arith, subst, eqb→eq, leb→le, ne_eqb, get_or-drop, length-append, length-drop, drop_of_length-le, drop-drop}
+use Rattle.std.proofs.Common.{sym, ap, ◌∙◌, arith, subst, eqb→eq, leb→le, le-leb, eq-eqb, ne_eqb, get_or-drop, length-append, length-drop, drop_of_length-le, drop-drop}
+use borrow.Author.Tests.{lt-leb}
 use Rattle.text.specs.Text.{ascii}
 use Rattle.text.specs.Tests.{is_false, and_l, and_r, all, tests, at, eqw, eqw→eq}
 use Rattle.arm64.specs.declared.Op.{Op}
 use Rattle.arm64.specs.declared.Op.TheVariants.{AllocStack, SaveReg, SaveRegPreindexed, SaveRegPair, SaveRegPairPreindexed, SaveLrPair, SaveNext, Other, End, Undecodable}
 use Rattle.arm64.specs.Arm64.{words_of}
 use Rattle.arm64.specs.Index.{op_at, words_read, words_length}
-use Rattle.unwind_codes.specs.UnwindCodes.{scalable, any_reg, Code, code, codes, fits, bits_fit, find, code_of, count, behind, X, Z, meant, number, byte}
+use Rattle.unwind_codes.specs.UnwindCodes.{scalable, any_reg, any_reg_offset, any_save, Code, code, codes, fits, bits_fit, find, code_of, count, behind, X, Z, meant, number, byte}
 use Rattle.unwind_codes.specs.UnwindCodes.{size_at, operation_at, ends, list_in, list, op_words}
 
 -- ---- what the table is held to
@@ -227,6 +228,28 @@ ends_scalable s = go (eqb (s / 4 % 8) 4)
     go : (t : Bool) → t ≡ ends (cond t Undecodable Other)
     go true = refl
     go false = refl
+
+-- save_any_reg ends the list where it is reserved: by bit 7 of its second byte, or as a scalable register's save
+pub any_high : (s t : ℕ) → 128 ≤ s → true ≡ ends (any_reg s t)
+unfolding any_reg words_of
+any_high s t h = rw (le-leb 128 s h)
+
+pub any_scalable : (s t : ℕ) → s < 128 → t / 64 ≡ 3 → ends (scalable s) ≡ ends (any_reg s t)
+unfolding any_reg
+any_scalable s t h e = rw (lt-leb 128 s h, eq-eqb (t / 64) 3 e)
+
+pub any_saved : (s t : ℕ) → s < 128 → (t / 64 ≡ 3 → ⊥) → false ≡ ends (any_reg s t)
+unfolding any_reg words_of
+any_saved s t h n = rw (lt-leb 128 s h, ne_eqb (t / 64) 3 n) (go (eqb (s / 64) 1) (eqb (s / 32 % 2) 1))
+  where
+    v : ℕ
+    v = any_reg_offset (eqb (s / 64) 1) (eqb (s / 32 % 2) 1) (t / 64) (t % 64)
+
+    go : (p x : Bool) → false ≡ ends (any_save p x (t / 64) (s % 32) v)
+    go true true = refl
+    go true false = refl
+    go false true = refl
+    go false false = refl
 
 -- a code has a byte at least, and five at most
 sizes_fit_lem : (cs : List Code) → T (all (λ c. leb 1 c.size && leb c.size 5) cs) → (b : ℕ) → (1 ≤ (find cs b).size) × ((find cs b).size ≤ 5)

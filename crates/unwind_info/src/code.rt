@@ -126,6 +126,30 @@ pub(crate) struct Operations<'a> {
     ghost whole: { length slots.now % 2 ≡ 0 },
 }
 
+impl<'a> Operations<'a> {
+    ghost use Rattle.std.specs.Prelude.{◌≡◌, ◌∷◌, IfSome};
+    ghost use Rattle.unwind_info.specs.Index.{operations};
+    ghost use Rattle.unwind_info.specs.declared.Operation.TheVariants.{PushNonVolatile as push};
+
+    // The register of a push that they begin with, and those behind it; by value, so that it stays in registers.
+    #[tactic(auto, using(crate::specs::Index::operations_push))]
+    pub(crate) fn push(self) -> Option<(u32, Operations<'a>)>
+        ensures { IfSome result (λ p. operations self.entry.frame self.entry.slots.now ≡ push p.0 ∷ operations p.1.frame p.1.slots.now) }
+    {
+        let [_, b, ..] = *self.slots else {
+            return None;
+        };
+        if b % 16 != PUSH_NONVOL {
+            return None;
+        }
+        let operations = Operations {
+            slots: &self.slots[SLOT..],
+            frame: self.frame,
+        };
+        Some((u32::from(b / 16), operations))
+    }
+}
+
 impl<'a> Iterator for Operations<'a> {
     ghost use Rattle.unwind_info.specs.Index.{operations};
 

@@ -5,6 +5,7 @@ ghost use Rattle.refusal.specs.Refusal.{number};
 ghost use Rattle.unwind_info.specs.UnwindInfo.{slot_count, frame_register, frame_offset, part_size, part_number, codes_of, info_words};
 ghost use Rattle.unwind_info.specs.Index.{operations};
 
+use crate::Operation::PushNonVolatile;
 use crate::code::{Operations, SLOT};
 use fill::{put_words, set_word};
 use refusal::Refusal;
@@ -106,8 +107,14 @@ impl<'a> Part<'a> {
     {
         let first = put_words(out, at, &[self.frame_register(), self.frame_offset(), 0]);
         let mut p = first;
-        for op in self.operations() {
+        let mut operations = self.operations();
+        while let Some(op) = operations.next() {
             p = put_words(out, p, &op.words());
+            // Most codes are pushes: they are looked for before the table is asked. A `for` over the iterator could not go on behind them.
+            while let Some((register, behind)) = operations.push() {
+                p = put_words(out, p, &PushNonVolatile(register).words());
+                operations = behind;
+            }
         }
         set_word(out, first - 1, ((p - first) / OP_WORDS) as u32);
         p

@@ -6,7 +6,6 @@
 #![tactic(auto)]
 
 use refusal::answer_number;
-use std::alloc::{AllocError, Global};
 use std::io;
 use std::io::Read;
 
@@ -21,23 +20,28 @@ const MOST_CASES: u32 = 65536;
 const MOST_RUNS: u32 = 16;
 
 // A call, and what is due of it.
-#[derive(Drop)]
-struct Case {
+#[derive(Clone, Copy)]
+struct Case<'a> {
     limit: u32,
     number: u32,
     entries: u32,
-    book: Vec<u32>,
-    text: Vec<u8>,
+    book: &'a [u32],
+    text: &'a [u8],
+}
+
+impl Case<'_> {
+    // Whether the port answers as is due.
+    fn agrees(self) -> bool {
+        let mut work = [0; 8192];
+        let mut text = [0; 65536];
+        let r = translate::translate(self.book, self.limit, &mut work, &mut text);
+        answer_number(r.answer) == self.number
+            && r.entries == self.entries as usize
+            && &text[..r.length] == self.text
+    }
 }
 
 // ---- reading
-
-// The next n bytes of the input, and zeros in place of those behind its end.
-fn read_bytes<R: Read>(alloc: Global, reader: &mut R, n: usize) -> Result<Vec<u8>, AllocError> {
-    let mut bytes = vec![in alloc; 0; n]?;
-    input::read_full(reader, &mut bytes);
-    Ok(bytes)
-}
 
 // The next word of the input, and 0 where it ends before the word does.
 fn read_word<R: Read>(reader: &mut R) -> u32 {
@@ -48,43 +52,30 @@ fn read_word<R: Read>(reader: &mut R) -> u32 {
     }
 }
 
-impl Case {
-    // The next case of the input, and none where its book or its text is too long.
-    fn read<R: Read>(alloc: Global, reader: &mut R) -> Result<Option<Case>, AllocError> {
-        let limit = read_word(reader);
-        let number = read_word(reader);
-        let entries = read_word(reader);
-        let length = read_word(reader) as usize;
-        let size = read_word(reader) as usize;
-        if MOST_TEXT < length || MOST_WORDS < size {
-            return Ok(None);
-        }
-        let bytes = read_bytes(alloc, reader, 4 * size)?;
-        let mut text = read_bytes(alloc, reader, length.next_multiple_of(4))?;
-        text.truncate(length);
-        let (words, _) = bytes.as_chunks::<4>();
-        Ok(Some(Case {
-            limit,
-            number,
-            entries,
-            book: words.iter().map(|w| u32::from_le_bytes(*w)).collect(alloc)?,
-            text,
-        }))
+// Whether the port answers the next case of the input as is due; not where the case's book or its text is too long. Behind the input's end are zeros.
+fn next_agrees<R: Read>(reader: &mut R) -> bool {
+    let limit = read_word(reader);
+    let number = read_word(reader);
+    let entries = read_word(reader);
+    let length = read_word(reader) as usize;
+    let size = read_word(reader) as usize;
+    if MOST_TEXT < length || MOST_WORDS < size {
+        return false;
     }
-
-    // ---- comparing
-
-    // Whether the port answers as is due.
-    fn agrees(&self, alloc: Global) -> Result<bool, AllocError> {
-        let mut work = vec![in alloc; 0; 8192]?;
-        let mut text = vec![in alloc; 0; 65536]?;
-        let r = translate::translate(&self.book, self.limit, &mut work, &mut text);
-        Ok(
-            answer_number(r.answer) == self.number
-                && r.entries == self.entries as usize
-                && text[..r.length] == self.text[..],
-        )
-    }
+    let mut bytes = [0; 4 * MOST_WORDS];
+    let mut book = [0; MOST_WORDS];
+    let mut text = [0; MOST_TEXT];
+    input::read_full(reader, &mut bytes[..4 * size]);
+    input::read_full(reader, &mut text[..length.next_multiple_of(4)]);
+    input::words(&bytes[..4 * size], &mut book);
+    let case = Case {
+        limit,
+        number,
+        entries,
+        book: &book[..size],
+        text: &text[..length],
+    };
+    case.agrees()
 }
 
 // How many cases the next run has.
@@ -102,11 +93,7 @@ fn main(rt: HostRuntime) -> io::Result<()> {
     for _ in 0..MOST_RUNS {
         let end = done.saturating_add(read_count(&mut reader));
         for index in done..end {
-            let agrees = match Case::read(rt.alloc(), &mut reader)? {
-                Some(case) => case.agrees(rt.alloc())?,
-                None => false,
-            };
-            if !agrees {
+            if !next_agrees(&mut reader) {
                 println!(rt; "{index} differs")?;
                 differ = differ.saturating_add(1);
             }

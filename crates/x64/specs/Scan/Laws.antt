@@ -80,7 +80,7 @@ scanned_append s (x ∷ xs) ys = go (within s.total x) (scanned_append (after s 
     go true h = h
     go false h = refl
 
-advance_total : (s : Scan) (o : Op) (S : ℕ) → (advance s o S).total ≡ S
+pub advance_total : (s : Scan) (o : Op) (S : ℕ) → (advance s o S).total ≡ S
 unfolding advance grown framed machined
 advance_total s (PushNonVolatile r) S = refl
 advance_total s (Alloc v) S = refl

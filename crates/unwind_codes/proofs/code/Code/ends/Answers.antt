@@ -14,7 +14,7 @@ pub bounds-bytes-2 : goal.bounds-bytes-2
 bounds-bytes-2 c = omega (arith, three (get_or c.args.self.bytes.now 0 0) (omega arith), c.args.self.whole)
 
 pub returns-then-b : goal.returns-then-b
-returns-then-b c = rw (c.ends.ensures, c.any_reg.ensures) (ap ends (any_at c.args.self.bytes.now 0 (omega arith) (omega arith) (omega arith)))
+returns-then-b c = rw c.any_reg_ends.ensures (ap ends (any_at c.args.self.bytes.now 0 (omega arith) (omega arith) (omega arith)))
 
 pub returns : goal.returns
 returns c =
