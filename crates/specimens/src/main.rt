@@ -161,7 +161,8 @@ impl Case<'_> {
         }
     }
 
-    // Where a buffer would be too long, nothing is called.
+    // Where a buffer would be too long, nothing is called. Not inlined, as `limits`: the buffers of both are not on the stack at once.
+    #[inline(never)]
     fn call(self, rt: &impl Print, given: Given) -> io::Result<()> {
         if MOST_ROOM < given.work.max(given.text) {
             return Ok(());
@@ -182,6 +183,7 @@ impl Case<'_> {
         Ok(())
     }
 
+    #[inline(never)]
     fn limits(self, rt: &impl Print) -> io::Result<()> {
         print!(rt; ":")?;
         for limit in 0..34 {
